@@ -70,7 +70,7 @@ keeps m at es old (Denied u d) new b k = may_deny m at es old u b.unit d b.is b.
 keeps m at es old (Ended u h) new b k = tt
 keeps m at es old (Failed s u cause) new b k = tt
 
-next : {D S A : Type 0} (m : Meaning D S A) (old : State D) (e : Entry S A) (new : State D) → Step m old e new → new.next ≡ old.next + begun e
+pub next : {D S A : Type 0} (m : Meaning D S A) (old : State D) (e : Entry S A) (new : State D) → Step m old e new → new.next ≡ old.next + begun e
 next m old (Alone s q a w) new b = b.next ∙ sym (add-zero old.next)
 next m old (Began u s) new b = b.next ∙ omega arith
 next m old (Ran u q a) new b = b.next ∙ sym (add-zero old.next)

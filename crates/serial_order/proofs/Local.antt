@@ -1,5 +1,5 @@
 -- The answer of one more entry can be judged by itself.
-use Rattle.std.proofs.Common.{◌≡◌, ◌↔◌, ℕ, zero, suc, ◌≤◌, Bool, true, false, cond, List, [], ◌∷◌, ◌++◌, map, filter, Option, Some, None, IsSomeAnd, find, refl, sym, ap, ap₂, ◌∙◌, subst, append-nil, append_assoc, arith}
+use Rattle.std.proofs.Common.{◌≡◌, ◌↔◌, ℕ, zero, suc, ◌<◌, ◌≤◌, length, Bool, true, false, cond, List, [], ◌∷◌, ◌++◌, map, filter, Option, Some, None, IsSomeAnd, find, refl, sym, ap, ap₂, ◌∙◌, subst, append-nil, append_assoc, arith}
 use Rattle.std.proofs.lemmas.List.{map-append, same_from_push}
 use Rattle.std.specs.List.{AllByRecursion as ByRecursion}
 use Rattle.serial_order.specs.Journal.{Entry, Alone, Began, Ran, Denied, Ended, Failed, Done, Fate, Txn, commits, units, gather, with_done, with_fate, is_open}
@@ -20,11 +20,11 @@ sound_all m at es (e ∷ rest) l h =
     (k.0, k.1 ∙ s.zero_at, subst (λ us. Sound m k.0 (commits us) (begins us) (units us)) (append_assoc es (e ∷ []) rest) k.2)
 
 -- the databases are those that the units make
-at_is : {D S A : Type 0} (m : Meaning D S A) (at : ℕ → D) (n b : ℕ) (ts : List (Txn S A)) → Sound m at n b ts → (v : ℕ) → v ≤ n → at v ≡ database_at m (at 0) ts v
-at_is m at n b ts h zero l = refl
-at_is m at n b ts h (suc v) l =
-    database_of_runs m at (at v) (filter (commits_as (suc v)) ts) (at (suc v)) (committing m at n v ts h.placed (h.once v (omega arith)))
-    ∙ ap (λ d. last_database m d (filter (commits_as (suc v)) ts)) (at_is m at n b ts h v (omega arith))
+pub at_is : {D S A : Type 0} (m : Meaning D S A) (at : ℕ → D) (n : ℕ) (ts : List (Txn S A)) → ByRecursion (Placed m at n) ts → ((k : ℕ) → k < n → length (filter (commits_as (suc k)) ts) ≡ 1) → (v : ℕ) → v ≤ n → at v ≡ database_at m (at 0) ts v
+at_is m at n ts placed once zero l = refl
+at_is m at n ts placed once (suc v) l =
+    database_of_runs m at (at v) (filter (commits_as (suc v)) ts) (at (suc v)) (committing m at n v ts placed (once v (omega arith)))
+    ∙ ap (λ d. last_database m d (filter (commits_as (suc v)) ts)) (at_is m at n ts placed once v (omega arith))
 
 found_cond : {X : Type 0} (P : X → Type 0) (b : Bool) (x t : X) (o : Option X) → cond b (Some x) o ≡ Some t → P x → (o ≡ Some t → P t) → P t
 found_cond P true x t o e p f = let q : x ≡ t = cc in subst P q p
@@ -101,17 +101,17 @@ same_open {S} {A} P Q es u h k =
     subst (λ o. IsSomeAnd o Q) (sym w.1) (found_is (λ (t : Txn S A). P t → Q t) (is_open u) (units es) w.0 w.1 h w.2)
 
 to_answer : {D S A : Type 0} (m : Meaning D S A) (at at' : ℕ → D) (b : ℕ) (es : List (Entry S A)) (e : Entry S A) → ((k : ℕ) → k ≤ commits es → at' k ≡ at k) → Sound m at (commits es) b (units es) → IsAnswerAt m at' es e → IsAnswer m (at 0) es e
-to_answer m at at' b es (Alone s q a w) g h i = i ∙ ap (λ d. (m.exec d q).1) (g (commits es) (omega arith) ∙ at_is m at (commits es) b (units es) h (commits es) (omega arith))
+to_answer m at at' b es (Alone s q a w) g h i = i ∙ ap (λ d. (m.exec d q).1) (g (commits es) (omega arith) ∙ at_is m at (commits es) (units es) h.placed h.once (commits es) (omega arith))
 to_answer m at at' b es (Began u s) g h i = tt
-to_answer m at at' b es (Ran u q a) g h i = same_open _ _ es u (All-weaken _ _ (units es) (λ t p r. r ∙ ap (λ d. (m.exec (after m d t.work) q).1) (g t.version p.past ∙ at_is m at (commits es) b (units es) h t.version p.past)) h.placed) i
+to_answer m at at' b es (Ran u q a) g h i = same_open _ _ es u (All-weaken _ _ (units es) (λ t p r. r ∙ ap (λ d. (m.exec (after m d t.work) q).1) (g t.version p.past ∙ at_is m at (commits es) (units es) h.placed h.once t.version p.past)) h.placed) i
 to_answer m at at' b es (Denied u d) g h i = tt
 to_answer m at at' b es (Ended u f) g h i = tt
 to_answer m at at' b es (Failed s u cause) g h i = tt
 
 of_answer : {D S A : Type 0} (m : Meaning D S A) (at at' : ℕ → D) (b : ℕ) (es : List (Entry S A)) (e : Entry S A) → ((k : ℕ) → k ≤ commits es → at' k ≡ at k) → Sound m at (commits es) b (units es) → IsAnswer m (at 0) es e → IsAnswerAt m at' es e
-of_answer m at at' b es (Alone s q a w) g h i = i ∙ ap (λ d. (m.exec d q).1) (sym (g (commits es) (omega arith) ∙ at_is m at (commits es) b (units es) h (commits es) (omega arith)))
+of_answer m at at' b es (Alone s q a w) g h i = i ∙ ap (λ d. (m.exec d q).1) (sym (g (commits es) (omega arith) ∙ at_is m at (commits es) (units es) h.placed h.once (commits es) (omega arith)))
 of_answer m at at' b es (Began u s) g h i = tt
-of_answer m at at' b es (Ran u q a) g h i = same_open _ _ es u (All-weaken _ _ (units es) (λ t p r. r ∙ ap (λ d. (m.exec (after m d t.work) q).1) (sym (g t.version p.past ∙ at_is m at (commits es) b (units es) h t.version p.past))) h.placed) i
+of_answer m at at' b es (Ran u q a) g h i = same_open _ _ es u (All-weaken _ _ (units es) (λ t p r. r ∙ ap (λ d. (m.exec (after m d t.work) q).1) (sym (g t.version p.past ∙ at_is m at (commits es) (units es) h.placed h.once t.version p.past))) h.placed) i
 of_answer m at at' b es (Denied u d) g h i = tt
 of_answer m at at' b es (Ended u f) g h i = tt
 of_answer m at at' b es (Failed s u cause) g h i = tt

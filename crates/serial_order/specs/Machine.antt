@@ -51,6 +51,10 @@ pub record IsAt {D : Type 0} (old new : State D) (number : ℕ) (now : Option (L
   pub here : new.live number ≡ now
   pub others : (other : ℕ) → other ≢ number → new.live other ≡ old.live other
 
+-- a unit that stands there is of this stream
+abbrev pub IsOfStream : {D : Type 0} → Option (Live D) → ℕ → Type 0
+IsOfStream {D} place stream = (unit : Live D) → place ≡ Some unit → unit.stream ≡ stream
+
 -- a statement alone ran on the committed database; a write waits until no unit is a writer
 pub record IsAlone {D S A : Type 0} (meaning : Meaning D S A) (old new : State D) (stream : ℕ) (stmt : S) (gave : A) (has_written : Bool) : Type 0 where
   pub free : IsFree old stream
