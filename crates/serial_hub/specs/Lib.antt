@@ -1,0 +1,3 @@
+pub mod Engine
+pub mod Hub
+pub mod Law
