@@ -39,14 +39,13 @@ other_session law old new u s k r (Reading w v) a h g ne i = (i.0, law.unit_else
 other_session law old new u s k r (Writing w v) a h g ne i = (i.0, law.unit_elsewhere old new u s k r w i.0 a h g ne i.1, i.2, i.3)
 
 -- one stream's session and unit change
-pub hub_moved : {D : Type 0} (law : Law D) (base base' : D) (views views' : ℕ → Option (View D)) (sessions sessions' : List Session) (now ahead now' ahead' : ℕ) (busy busy' : Bool) (st : State D) (db : D) (u s : ℕ) (r : Option (Live D)) (x : Session) → IsHub base views sessions now ahead busy st → base' ≡ db → Became views views' u (option_map view_of r) → ((o : Live D) → r ≡ Some o → o.stream ≡ s) → ((o : Live D) → st.live u ≡ Some o → o.stream ≡ s) → u < ahead' → ahead ≤ ahead' → (busy' ≡ false → NoWriter (moved st db now' ahead' u r)) → get_or sessions' s Auto ≡ x → ((k : ℕ) → k ≢ s → get_or sessions' k Auto ≡ get_or sessions k Auto) → IsSession (moved st db now' ahead' u r) s x → IsHub base' views' sessions' now' ahead' busy' (moved st db now' ahead' u r)
-hub_moved law base base' views views' sessions sessions' now ahead now' ahead' busy busy' st db u s r x i e b h g l m t here there mine =
+pub hub_moved : {D : Type 0} (law : Law D) (base base' : D) (views views' : ℕ → Option (View D)) (sessions sessions' : List Session) (now ahead now' ahead' : ℕ) (busy busy' : Bool) (st : State D) (db : D) (u s : ℕ) (r : Option (Live D)) (x : Session) → IsHub base views sessions now ahead busy st → base' ≡ db → Became views views' u (option_map view_of r) → ((o : Live D) → r ≡ Some o → o.stream ≡ s) → ((o : Live D) → st.live u ≡ Some o → o.stream ≡ s) → (busy' ≡ false → NoWriter (moved st db now' ahead' u r)) → get_or sessions' s Auto ≡ x → ((k : ℕ) → k ≢ s → get_or sessions' k Auto ≡ get_or sessions k Auto) → IsSession (moved st db now' ahead' u r) s x → IsHub base' views' sessions' now' ahead' busy' (moved st db now' ahead' u r)
+hub_moved law base base' views views' sessions sessions' now ahead now' ahead' busy busy' st db u s r x i e b h g t here there mine =
     let new = moved st db now' ahead' u r in
     let a = moved_at st db now' ahead' u r in record {
       stands = stands_moved base base' views views' st db now' ahead' u r i.stands e b;
       version = refl;
       next = refl;
-      fresh = λ k w. a.others k (λ q. omega arith) ∙ i.fresh k (omega arith);
       turn = t;
       each = λ k. elim (cases_eq k s) [
         | inl q ↦ subst (λ j. IsSession new j (get_or sessions' j Auto)) (sym q) (subst (λ y. IsSession new s y) (sym here) mine)
@@ -91,7 +90,7 @@ reader_begun {D} law m db es base base' views views' sessions now ahead busy s l
     let i = h.is in
     let o : Live D = record { stream = s; start = st.version; view = st.db; is_writer = false } in
     let free : IsFree st s = subst (λ y. IsSession st s y) x (i.each s) in
-    let none = i.fresh ahead (omega arith) in
+    let none = law.fresh m db es st h.run ahead (omega (arith, i.next)) in
     let new = moved st st.db now (ahead + 1) ahead (Some o) in
     goes_on law m db es (Began ahead s) base base' views views' sessions (set sessions s (Reading ahead now)) now ahead now (ahead + 1) busy busy h new
     (record {
@@ -109,7 +108,6 @@ reader_begun {D} law m db es base base' views views' sessions now ahead busy s l
     (subst (λ d. Became views views' ahead (Some (record { view = d; is_writer = false }))) i.stands.db b)
     (λ p q. let same : o ≡ p = cc in sym (ap (λ (y : Live D). y.stream) same))
     (λ p q. absurd (let no_unit : None ≡ Some p = sym none ∙ q in cc))
-    (omega arith) (omega arith)
     (λ f. quiet_moved st st.db now (ahead + 1) ahead (Some o) (λ k p w ne. i.turn f k p w) (λ p q. let same : o ≡ p = cc in sym (ap (λ (y : Live D). y.is_writer) same)))
     (session_set sessions s (Reading ahead now) l) (session_other sessions s (Reading ahead now))
     (o, law.unit_begun st new ahead s o (moved_at st st.db now (ahead + 1) ahead (Some o)) refl free, i.version, refl))
@@ -124,13 +122,12 @@ unbegun law m db es base base' views views' sessions now ahead busy s x e b h =
       stands = record {
         db = e ∙ i.stands.db;
         live = λ k. elim (cases_eq k ahead) [
-          | inl q ↦ ap views' q ∙ b.here ∙ sym (ap (option_map view_of) (ap st.live q ∙ i.fresh ahead (omega arith)))
+          | inl q ↦ ap views' q ∙ b.here ∙ sym (ap (option_map view_of) (ap st.live q ∙ law.fresh m db es st h.run ahead (omega (arith, i.next))))
           | inr ne ↦ b.others k ne ∙ i.stands.live k
         ];
       };
       version = i.version;
       next = i.next;
-      fresh = i.fresh;
       turn = i.turn;
       each = i.each;
     })
@@ -171,15 +168,8 @@ ran_in {D} law m db es base base' views views' sessions sessions' now ahead busy
     (hub_moved law base base' views views' sessions sessions' now ahead now ahead busy busy' st st.db u s (Some o') x i (e ∙ i.stands.db) now_is
     (λ p f. let one : o' ≡ p = cc in sym (ap (λ (y : Live D). y.stream) one) ∙ has.stream)
     (λ p f. let both : Some o ≡ Some p = sym has.is ∙ f in let one : o ≡ p = cc in sym (ap (λ (y : Live D). y.stream) one) ∙ has.stream)
-    (below_next base views sessions now ahead busy st u o i has.is) (omega arith)
     (λ f. let k = quiet f in quiet_moved st st.db now ahead u (Some o') k.0 (λ p g. let one : o' ≡ p = cc in sym (ap (λ (y : Live D). y.is_writer) one) ∙ k.1))
     here there (mine new (law.unit_ran st new u s o o' has spot has.stream)))
-  where
-    below_next : {D : Type 0} (base : D) (views : ℕ → Option (View D)) (sessions : List Session) (now ahead : ℕ) (busy : Bool) (st : State D) (u : ℕ) (o : Live D) → IsHub base views sessions now ahead busy st → st.live u ≡ Some o → u < ahead
-    below_next base views sessions now ahead busy st u o i e = elim (cases_lt u ahead) [
-      | inl l ↦ l
-      | inr g ↦ absurd (let none : None ≡ Some o = sym (i.fresh u g) ∙ e in cc)
-    ]
 
 -- a unit ends
 ended_in : {D : Type 0} (law : Law D) (m : Meaning D Stmt Answer) (db : D) (es : List (J.Entry Stmt Answer)) (base base' : D) (views views' : ℕ → Option (View D)) (sessions : List Session) (now ahead now' : ℕ) (busy busy' : Bool) (s u : ℕ) (e : J.Entry Stmt Answer) (last : D) (h : StandsFor m db es base views sessions now ahead busy) (o : Live D) → HasUnit h.state s u o → s < length sessions → base' ≡ last → Became views views' u None → (busy' ≡ false → NoWriterBut h.state u) → Step m h.state e (moved h.state last now' ahead u None) → StandsFor m db (es ++ e ∷ []) base' views' (set sessions s Auto) now' ahead busy'
@@ -191,16 +181,9 @@ ended_in {D} law m db es base base' views views' sessions now ahead now' busy bu
     (hub_moved law base base' views views' sessions (set sessions s Auto) now ahead now' ahead busy busy' st last u s None Auto i z b
     (λ p f. cc)
     (λ p f. let both : Some o ≡ Some p = sym has.is ∙ f in let one : o ≡ p = cc in sym (ap (λ (y : Live D). y.stream) one) ∙ has.stream)
-    (below_next base views sessions now ahead busy st u o i has.is) (omega arith)
     (λ f. quiet_moved st last now' ahead u None (quiet f) (λ p g. cc))
     (session_set sessions s Auto l) (session_other sessions s Auto)
     (law.free_ended st new u s o has (moved_at st last now' ahead u None)))
-  where
-    below_next : {D : Type 0} (base : D) (views : ℕ → Option (View D)) (sessions : List Session) (now ahead : ℕ) (busy : Bool) (st : State D) (u : ℕ) (o : Live D) → IsHub base views sessions now ahead busy st → st.live u ≡ Some o → u < ahead
-    below_next base views sessions now ahead busy st u o i e = elim (cases_lt u ahead) [
-      | inl l ↦ l
-      | inr g ↦ absurd (let none : None ≡ Some o = sym (i.fresh u g) ∙ e in cc)
-    ]
 
 -- the endings that the hub has: of a reader by its commit, of a writer by its commit, and of either by a failure
 pub closed : {D : Type 0} (law : Law D) (m : Meaning D Stmt Answer) (db : D) (es : List (J.Entry Stmt Answer)) (base base' : D) (views views' : ℕ → Option (View D)) (sessions : List Session) (now ahead : ℕ) (busy : Bool) (s u v : ℕ) → s < length sessions → get_or sessions s Auto ≡ Reading u v → base' ≡ base → Became views views' u None → StandsFor m db es base views sessions now ahead busy → StandsFor m db (es ++ Ended u ReadOnly ∷ []) base' views' (set sessions s Auto) now ahead busy
@@ -236,6 +219,10 @@ writer_committed {D} law m db es base base' views views' sessions now ahead busy
     ended_in law m db es base base' views views' sessions now ahead (now + 1) busy false s u (Ended u Commit) w.0.view h w.0 w.1 l (e.2 ∙ ap (λ (y : View D). y.view) same) b
     (λ f. one_writer law m db es h.state u w.0 h.run w.1.is w.3)
     (record { unit = w.0; is = w.1.is; writer = w.3; db = refl; version = omega (arith, i.version); next = sym i.next; live = moved_at h.state w.0.view (now + 1) ahead u None })
+
+-- what the engine asks before a unit begins
+pub may_begin : {D : Type 0} (law : Law D) (m : Meaning D Stmt Answer) (db : D) (es : List (J.Entry Stmt Answer)) (base : D) (views : ℕ → Option (View D)) (sessions : List Session) (now ahead : ℕ) (busy : Bool) → StandsFor m db es base views sessions now ahead busy → views ahead ≡ None
+may_begin law m db es base views sessions now ahead busy h = h.is.stands.live ahead ∙ ap (option_map view_of) (law.fresh m db es h.state h.run ahead (omega (arith, h.is.next)))
 
 -- what the engine asks before a commit
 pub may_commit : {D : Type 0} (m : Meaning D Stmt Answer) (db : D) (es : List (J.Entry Stmt Answer)) (base : D) (views : ℕ → Option (View D)) (sessions : List Session) (now ahead : ℕ) (busy : Bool) (s u v : ℕ) → get_or sessions s Auto ≡ Writing u v → StandsFor m db es base views sessions now ahead busy → (y : View D) × (views u ≡ Some y) × (y.is_writer ≡ true)
@@ -307,7 +294,6 @@ at_first m base views sessions n now ahead busy none e z w = record {
     stands = record { db = refl; live = none };
     version = sym z;
     next = sym w;
-    fresh = λ k l. refl;
     turn = λ f k o i. cc;
     each = λ s. subst (λ x. IsSession (start base) s x) (sym (ap (λ xs. get_or xs s Auto) e ∙ all_auto n s)) (λ k o i. cc);
   };
@@ -335,7 +321,6 @@ ran_alone {D} law m db es base base' views views' sessions now ahead now' busy s
       stands = record { db = refl; live = λ k. v k ∙ i.stands.live k };
       version = refl;
       next = refl;
-      fresh = i.fresh;
       turn = i.turn;
       each = λ k. same_session law st new k (get_or sessions k Auto) (λ j. refl) (i.each k);
     })
@@ -351,7 +336,7 @@ alone_failed law m db es base base' views views' sessions now ahead busy s x e v
     let i = h.is in
     goes_on law m db es (Failed s None Fault) base base' views views' sessions sessions now ahead now ahead busy busy h st
     (record { free = subst (λ y. IsSession st s y) x (i.each s); same = record { db = refl; version = refl; next = refl; live = λ k. refl } })
-    (record { stands = record { db = e ∙ i.stands.db; live = λ k. v k ∙ i.stands.live k }; version = i.version; next = i.next; fresh = i.fresh; turn = i.turn; each = i.each })
+    (record { stands = record { db = e ∙ i.stands.db; live = λ k. v k ∙ i.stands.live k }; version = i.version; next = i.next; turn = i.turn; each = i.each })
 
 -- whether it waits
 pub not_waiting : (w b : Bool) → (w && b) ≡ false → w ≡ true → b ≡ false

@@ -39,7 +39,6 @@ pub record IsHub {D : Type 0} (base : D) (views : ℕ → Option (View D)) (sess
   pub stands : IsEngineOf base views st
   pub version : st.version ≡ now
   pub next : st.next ≡ ahead
-  pub fresh : (k : ℕ) → ahead ≤ k → st.live k ≡ None
   pub turn : busy ≡ false → NoWriter st
   pub each : (s : ℕ) → IsSession st s (get_or sessions s Auto)
 

@@ -7,6 +7,7 @@ use Rattle.serial_hub.specs.declared.Stmt.{Stmt}
 use Rattle.serial_hub.specs.declared.Answer.{Answer}
 
 pub record Law (D : Type 0) : Type 0 where
+  pub fresh : (meaning : Meaning D Stmt Answer) (db : D) (journal : List (Entry Stmt Answer)) (end : State D) → Run meaning (start db) journal end → (number : ℕ) → end.next ≤ number → end.live number ≡ None
   pub started : (meaning : Meaning D Stmt Answer) (db : D) (journal : List (Entry Stmt Answer)) (end : State D) → Run meaning (start db) journal end → (number : ℕ) (unit : Live D) → end.live number ≡ Some unit → unit.start ≤ end.version
   pub current : (meaning : Meaning D Stmt Answer) (db : D) (journal : List (Entry Stmt Answer)) (end : State D) → Run meaning (start db) journal end → (number : ℕ) (unit : Live D) → end.live number ≡ Some unit → unit.is_writer ≡ true → unit.start ≡ end.version
   pub one_writer : (meaning : Meaning D Stmt Answer) (db : D) (journal : List (Entry Stmt Answer)) (end : State D) → Run meaning (start db) journal end → (number other : ℕ) (unit its : Live D) → end.live number ≡ Some unit → end.live other ≡ Some its → unit.is_writer ≡ true → its.is_writer ≡ true → number ≡ other

@@ -18,19 +18,19 @@ ghost use Rattle.serial_hub.specs.Law.{Law};
 use serial_order::serial_order;
 use std::alloc::{AllocError, Global};
 
-#[derive(Clone, Copy, PartialEq, Eq, Debug)]
+#[derive(Clone, Copy)]
 pub struct Stmt {
     pub write: bool,
     pub amount: u64,
 }
 
-#[derive(Clone, Copy, PartialEq, Eq, Debug)]
+#[derive(Clone, Copy)]
 pub enum Answer {
     Gave(u64),
     Refused,
 }
 
-#[derive(Clone, Copy, PartialEq, Eq, Debug)]
+#[derive(Clone, Copy)]
 pub enum Entry {
     Alone {
         stream: u64,
@@ -67,7 +67,7 @@ pub enum Entry {
     },
 }
 
-#[derive(Clone, Copy, PartialEq, Eq, Debug)]
+#[derive(Clone, Copy)]
 pub struct Fault;
 
 pub trait Engine {
@@ -121,7 +121,7 @@ pub trait Engine {
     ghost refusals: { (a : Answer) → meaning.is_refused a ≡ is_refusal a };
 }
 
-#[derive(Clone, Copy, PartialEq, Eq, Debug)]
+#[derive(Clone, Copy)]
 pub enum Session {
     Auto,
     Reading { unit: u64, version: u64 },
@@ -332,7 +332,7 @@ impl Hub {
 }
 
 /// What a stream asks for.
-#[derive(Clone, Copy, PartialEq, Eq, Debug)]
+#[derive(Clone, Copy)]
 pub enum What {
     Begin,
     Alone(Stmt),
@@ -340,7 +340,7 @@ pub enum What {
     Commit,
 }
 
-#[derive(Clone, Copy, PartialEq, Eq, Debug)]
+#[derive(Clone, Copy)]
 pub struct Ask {
     pub stream: usize,
     pub what: What,
