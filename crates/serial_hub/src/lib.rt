@@ -15,6 +15,9 @@ ghost use Rattle.serial_hub.specs.declared.Session.TheVariants as Session;
 ghost use Rattle.serial_order.specs.Serial.{serial, last_database};
 ghost use Rattle.serial_hub.specs.Law.{Law};
 
+mod number_engine;
+
+pub use number_engine::NumberEngine;
 use serial_order::serial_order;
 use std::alloc::{AllocError, Global};
 
