@@ -1,4 +1,6 @@
-//! An engine's contract in the words of the serial order's machine, and a small hub over it.
+//! A test crate for the law of serial order: an engine's contract in the words of the law's machine, and a small hub over it.
+//!
+//! It carries the wrong bodies that only a crate above the law can have, as edits that the check refuses, until the hub of this repository carries them itself.
 #![tactic(auto)]
 
 ghost use Rattle.std.specs.Prelude.{◌≡◌, ◌≢◌, ◌<◌, ◌≤◌, ◌+◌, ◌^◌, ◌||◌, ◌&&◌, not, ℕ, Bool, true, false, Option, Some, None, IsSome, IsNone, List, [], ◌∷◌, replicate, ◌++◌, map, option_map, option_to_list, length, IfOk, OnErr, MatchResult};
@@ -21,18 +23,21 @@ pub use number_engine::NumberEngine;
 use serial_order::serial_order;
 use std::alloc::{AllocError, Global};
 
+/// A statement: a write of an amount, or a read.
 #[derive(Clone, Copy)]
 pub struct Stmt {
     pub write: bool,
     pub amount: u64,
 }
 
+/// What a statement gave, or that it was refused.
 #[derive(Clone, Copy)]
 pub enum Answer {
     Gave(u64),
     Refused,
 }
 
+/// An entry of the journal.
 #[derive(Clone, Copy)]
 pub enum Entry {
     Alone {
@@ -70,9 +75,11 @@ pub enum Entry {
     },
 }
 
+/// A call of the engine that broke. What it did to its transaction is undone.
 #[derive(Clone, Copy)]
 pub struct Fault;
 
+/// What holds the database and runs its transactions.
 pub trait Engine {
     type Db;
 
@@ -124,6 +131,7 @@ pub trait Engine {
     ghost refusals: { (a : Answer) → meaning.is_refused a ≡ is_refusal a };
 }
 
+/// What a stream is in the midst of.
 #[derive(Clone, Copy)]
 pub enum Session {
     Auto,
@@ -155,6 +163,7 @@ fn law<D>()
     serial_order::<D, Stmt, Answer>();
 }
 
+/// The sessions by stream, the number of commits, the number of the next unit, and whether a unit has the turn to write.
 #[derive(Drop)]
 pub struct Hub {
     sessions: Vec<Session>,
@@ -343,6 +352,7 @@ pub enum What {
     Commit,
 }
 
+/// One stream's next wish.
 #[derive(Clone, Copy)]
 pub struct Ask {
     pub stream: usize,
@@ -402,4 +412,67 @@ pub fn play<E: Engine>(
     }
     serial_order::<E::Db, Stmt, Answer>();
     Ok(journal)
+}
+
+#[cfg(test)]
+mod tests {
+    use super::*;
+    use std::test::Fail;
+
+    #[test]
+    fn a_reader_keeps_its_view(rt: HostRuntime) -> Result<(), Fail> {
+        let read = Stmt {
+            write: false,
+            amount: 0,
+        };
+        let add = Stmt {
+            write: true,
+            amount: 5,
+        };
+        let asks = [
+            Ask {
+                stream: 0,
+                what: What::Begin,
+            },
+            Ask {
+                stream: 1,
+                what: What::Alone(add),
+            },
+            Ask {
+                stream: 0,
+                what: What::Run(read),
+            },
+            Ask {
+                stream: 0,
+                what: What::Run(add),
+            },
+            Ask {
+                stream: 1,
+                what: What::Alone(read),
+            },
+        ];
+        let mut engine = NumberEngine::new(10);
+        let journal = play(rt.alloc(), &mut engine, 2, &asks)?;
+        assert!(rt;
+            matches!(
+                journal.get(2),
+                Some(Entry::Ran {
+                    answer: Answer::Gave(10),
+                    ..
+                })
+            )
+        );
+        assert!(rt; matches!(journal.get(3), Some(Entry::Stale { had: 0, now: 1, .. })));
+        assert!(rt;
+            matches!(
+                journal.get(4),
+                Some(Entry::Alone {
+                    answer: Answer::Gave(15),
+                    ..
+                })
+            )
+        );
+        assert_eq!(rt; engine.gain(), 5);
+        Ok(())
+    }
 }
