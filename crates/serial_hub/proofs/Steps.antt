@@ -1,5 +1,5 @@
 -- Each entry of the hub is a step of the machine, and the hub and its engine stand for the state after it.
-use Rattle.std.proofs.Common.{◌≡◌, ◌≢◌, ℕ, ◌+◌, ◌<◌, ◌≤◌, Bool, true, false, cond, not, ◌&&◌, ◌||◌, nat_eq, List, [], ◌∷◌, ◌++◌, length, get_or, set, replicate, Option, Some, None, option_map, refl, sym, ap, ◌∙◌, subst, inl, inr, arith}
+use Rattle.std.proofs.Common.{◌≡◌, ◌↔◌, ◌≢◌, ℕ, ◌+◌, ◌<◌, ◌≤◌, Bool, true, false, cond, not, ◌&&◌, ◌||◌, nat_eq, List, [], ◌∷◌, ◌++◌, length, get_or, set, replicate, Option, Some, None, option_map, refl, sym, ap, ◌∙◌, subst, inl, inr, arith}
 use Rattle.std.proofs.lemmas.List.{get_or_default, get_or-set_same, get_or-set_other, get_or-replicate, get_or_past, length-replicate}
 use Rattle.std.proofs.lemmas.Bool.{eq-eqb, ne_eqb, cases_eq, cases_lt, cases_Bool}
 use Rattle.serial_order.specs.Journal.{Alone, Began, Ran, Denied, Ended, Failed, Stale, Commit, ReadOnly, Fault}
@@ -342,3 +342,7 @@ alone_failed law m db es base base' views views' sessions now ahead busy s x e v
 pub not_waiting : (w b : Bool) → (w && b) ≡ false → w ≡ true → b ≡ false
 not_waiting true b e f = e
 not_waiting false b e f = cc
+
+-- whether its version is current
+pub not_stale : (b : Bool) (v now : ℕ) → b ≡ false → (b ≡ true) ↔ (v < now) → now ≤ v
+not_stale b v now e w = elim (cases_lt v now) [ inl l ↦ absurd (let stale : b ≡ true = w.1 l in cc) | inr g ↦ g ]

@@ -3,7 +3,7 @@
 //! It carries the wrong bodies that only a crate above the law can have, as edits that the check refuses, until the hub of this repository carries them itself.
 #![tactic(auto)]
 
-ghost use Rattle.std.specs.Prelude.{◌≡◌, ◌≢◌, ◌<◌, ◌≤◌, ◌+◌, ◌^◌, ◌||◌, ◌&&◌, not, ℕ, Bool, true, false, Option, Some, None, IsSome, IsNone, List, [], ◌∷◌, replicate, ◌++◌, map, option_map, option_to_list, length, IfOk, OnErr, MatchResult};
+ghost use Rattle.std.specs.Prelude.{◌≡◌, ◌≢◌, ◌<◌, ◌≤◌, ◌+◌, ◌^◌, ◌||◌, ◌&&◌, not, ℕ, Bool, true, false, Option, Some, None, IsSome, IsNone, List, [], ◌∷◌, replicate, ◌++◌, map, option_map, option_to_list, length, IfOk, OnErr, MatchResult, IsTrue, ◌↔◌};
 ghost use Rattle.serial_order.specs.Journal as J;
 ghost use Rattle.serial_order.specs.Serial.{Meaning};
 ghost use Rattle.serial_order.specs.Machine.{State, Run, start};
@@ -139,6 +139,13 @@ pub enum Session {
     Writing { unit: u64, version: u64 },
 }
 
+/// Whether commits were made since this version.
+fn is_stale(version: u64, now: u64) -> bool
+    ensures { IsTrue result ↔ (version < now) }
+{
+    version < now
+}
+
 /// Whether a statement waits for the writer.
 fn must_wait(stmt: &Stmt, busy: bool) -> bool
     ensures { result ≡ (stmt.now.write && busy) }
@@ -257,7 +264,7 @@ impl Hub {
             Session::Auto => None,
             Session::Reading { unit, version } => {
                 if stmt.write {
-                    if version < self.version {
+                    if is_stale(version, self.version) {
                         return Some(Entry::Stale {
                             unit,
                             had: version,
