@@ -85,6 +85,7 @@ goes_on : {D : Type 0} (law : Law D) (m : Meaning D Stmt Answer) (db : D) (es : 
 goes_on law m db es e base base' views views' sessions sessions' now ahead now' ahead' busy busy' h new s i = record { state = new; run = law.run_entry m (start db) es h.state e new h.run s; is = i }
 
 pub reader_begun : {D : Type 0} (law : Law D) (m : Meaning D Stmt Answer) (db : D) (es : List (J.Entry Stmt Answer)) (base base' : D) (views views' : ℕ → Option (View D)) (sessions : List Session) (now ahead : ℕ) (busy : Bool) (s : ℕ) → s < length sessions → get_or sessions s Auto ≡ Auto → base' ≡ base → Became views views' ahead (Some (record { view = base; is_writer = false })) → StandsFor m db es base views sessions now ahead busy → StandsFor m db (es ++ Began ahead s ∷ []) base' views' (set sessions s (Reading ahead now)) now (ahead + 1) busy
+unfolding Step
 reader_begun {D} law m db es base base' views views' sessions now ahead busy s l x e b h =
     let st = h.state in
     let i = h.is in
@@ -113,6 +114,7 @@ reader_begun {D} law m db es base base' views views' sessions now ahead busy s l
     (o, law.unit_begun st new ahead s o (moved_at st st.db now (ahead + 1) ahead (Some o)) refl free, i.version, refl))
 
 pub unbegun : {D : Type 0} (law : Law D) (m : Meaning D Stmt Answer) (db : D) (es : List (J.Entry Stmt Answer)) (base base' : D) (views views' : ℕ → Option (View D)) (sessions : List Session) (now ahead : ℕ) (busy : Bool) (s : ℕ) → get_or sessions s Auto ≡ Auto → base' ≡ base → Became views views' ahead None → StandsFor m db es base views sessions now ahead busy → StandsFor m db (es ++ Failed s None Fault ∷ []) base' views' sessions now ahead busy
+unfolding Step
 unbegun law m db es base base' views views' sessions now ahead busy s x e b h =
     let st = h.state in
     let i = h.is in
@@ -134,6 +136,7 @@ unbegun law m db es base base' views views' sessions now ahead busy s x e b h =
 
 -- a reader that wants to write at an old version
 pub stale : {D : Type 0} (law : Law D) (m : Meaning D Stmt Answer) (db : D) (es : List (J.Entry Stmt Answer)) (base : D) (views : ℕ → Option (View D)) (sessions : List Session) (now ahead : ℕ) (busy : Bool) (s u v : ℕ) → get_or sessions s Auto ≡ Reading u v → v < now → StandsFor m db es base views sessions now ahead busy → StandsFor m db (es ++ Denied u (Stale v now) ∷ []) base views sessions now ahead busy
+unfolding Step
 stale law m db es base views sessions now ahead busy s u v x l h =
     let st = h.state in
     let i = h.is in
@@ -154,6 +157,7 @@ no_other base views st u z n k v e ne = let w = view_back (st.live k) v (sym (z.
 
 -- a statement in a unit, after which the stream has the session x
 ran_in : {D : Type 0} (law : Law D) (m : Meaning D Stmt Answer) (db : D) (es : List (J.Entry Stmt Answer)) (base base' : D) (views views' : ℕ → Option (View D)) (sessions sessions' : List Session) (now ahead : ℕ) (busy busy' : Bool) (s u : ℕ) (q : Stmt) (a : Answer) (x : Session) (h : StandsFor m db es base views sessions now ahead busy) (o : Live D) → HasUnit h.state s u o → (m.is_read q || m.is_write q) ≡ true → (m.is_write q ≡ true → o.start ≡ h.state.version) → (m.is_write q ≡ true → NoWriterBut h.state u) → base' ≡ base → HasRun m views views' u q a → get_or sessions' s Auto ≡ x → ((k : ℕ) → k ≢ s → get_or sessions' k Auto ≡ get_or sessions k Auto) → (busy' ≡ false → NoWriterBut h.state u × ((o.is_writer || m.is_write q) ≡ false)) → ((st : State D) → HasUnit st s u (record { stream = o.stream; start = o.start; view = (m.exec o.view q).0; is_writer = o.is_writer || m.is_write q }) → IsSession st s x) → StandsFor m db (es ++ Ran u q a ∷ []) base' views' sessions' now ahead busy'
+unfolding Step
 ran_in {D} law m db es base base' views views' sessions sessions' now ahead busy busy' s u q a x h o has class current turn e r here there quiet mine =
     let st = h.state in
     let i = h.is in
@@ -187,6 +191,7 @@ ended_in {D} law m db es base base' views views' sessions now ahead now' busy bu
 
 -- the endings that the hub has: of a reader by its commit, of a writer by its commit, and of either by a failure
 pub closed : {D : Type 0} (law : Law D) (m : Meaning D Stmt Answer) (db : D) (es : List (J.Entry Stmt Answer)) (base base' : D) (views views' : ℕ → Option (View D)) (sessions : List Session) (now ahead : ℕ) (busy : Bool) (s u v : ℕ) → s < length sessions → get_or sessions s Auto ≡ Reading u v → base' ≡ base → Became views views' u None → StandsFor m db es base views sessions now ahead busy → StandsFor m db (es ++ Ended u ReadOnly ∷ []) base' views' (set sessions s Auto) now ahead busy
+unfolding Step
 closed law m db es base base' views views' sessions now ahead busy s u v l x e b h =
     let i = h.is in
     let w = subst (λ y. IsSession h.state s y) x (i.each s) in
@@ -195,6 +200,7 @@ closed law m db es base base' views views' sessions now ahead busy s u v l x e b
     (record { unit = w.0; is = w.1.is; cause = w.3; db = refl; version = sym i.version; next = sym i.next; live = moved_at h.state h.state.db now ahead u None })
 
 pub failed_reader : {D : Type 0} (law : Law D) (m : Meaning D Stmt Answer) (db : D) (es : List (J.Entry Stmt Answer)) (base base' : D) (views views' : ℕ → Option (View D)) (sessions : List Session) (now ahead : ℕ) (busy : Bool) (s u v : ℕ) → s < length sessions → get_or sessions s Auto ≡ Reading u v → base' ≡ base → Became views views' u None → StandsFor m db es base views sessions now ahead busy → StandsFor m db (es ++ Failed s (Some u) Fault ∷ []) base' views' (set sessions s Auto) now ahead busy
+unfolding Step
 failed_reader law m db es base base' views views' sessions now ahead busy s u v l x e b h =
     let i = h.is in
     let w = subst (λ y. IsSession h.state s y) x (i.each s) in
@@ -203,6 +209,7 @@ failed_reader law m db es base base' views views' sessions now ahead busy s u v 
     (record { unit = w.0; is = w.1.is; cause = w.1.stream; db = refl; version = sym i.version; next = sym i.next; live = moved_at h.state h.state.db now ahead u None })
 
 pub failed_writer : {D : Type 0} (law : Law D) (m : Meaning D Stmt Answer) (db : D) (es : List (J.Entry Stmt Answer)) (base base' : D) (views views' : ℕ → Option (View D)) (sessions : List Session) (now ahead : ℕ) (busy : Bool) (s u v : ℕ) → s < length sessions → get_or sessions s Auto ≡ Writing u v → base' ≡ base → Became views views' u None → StandsFor m db es base views sessions now ahead busy → StandsFor m db (es ++ Failed s (Some u) Fault ∷ []) base' views' (set sessions s Auto) now ahead false
+unfolding Step
 failed_writer law m db es base base' views views' sessions now ahead busy s u v l x e b h =
     let i = h.is in
     let w = subst (λ y. IsSession h.state s y) x (i.each s) in
@@ -211,6 +218,7 @@ failed_writer law m db es base base' views views' sessions now ahead busy s u v 
     (record { unit = w.0; is = w.1.is; cause = w.1.stream; db = refl; version = sym i.version; next = sym i.next; live = moved_at h.state h.state.db now ahead u None })
 
 pub writer_committed : {D : Type 0} (law : Law D) (m : Meaning D Stmt Answer) (db : D) (es : List (J.Entry Stmt Answer)) (base base' : D) (views views' : ℕ → Option (View D)) (sessions : List Session) (now ahead : ℕ) (busy : Bool) (s u v : ℕ) → s < length sessions → get_or sessions s Auto ≡ Writing u v → (y : View D) × (views u ≡ Some y) × (base' ≡ y.view) → Became views views' u None → StandsFor m db es base views sessions now ahead busy → StandsFor m db (es ++ Ended u Commit ∷ []) base' views' (set sessions s Auto) (now + 1) ahead false
+unfolding Step
 writer_committed {D} law m db es base base' views views' sessions now ahead busy s u v l x e b h =
     let i = h.is in
     let w = subst (λ y. IsSession h.state s y) x (i.each s) in
@@ -286,10 +294,10 @@ all_auto n k = elim (cases_lt k n) [
 ]
 
 -- a new hub and an engine without transactions stand for the empty journal
-pub at_first : {D : Type 0} (m : Meaning D Stmt Answer) (base : D) (views : ℕ → Option (View D)) (sessions : List Session) (n now ahead : ℕ) (busy : Bool) → ((k : ℕ) → views k ≡ None) → sessions ≡ replicate n Auto → now ≡ 0 → ahead ≡ 1 → StandsFor m base [] base views sessions now ahead busy
-at_first m base views sessions n now ahead busy none e z w = record {
+pub at_first : {D : Type 0} (law : Law D) (m : Meaning D Stmt Answer) (base : D) (views : ℕ → Option (View D)) (sessions : List Session) (n now ahead : ℕ) (busy : Bool) → ((k : ℕ) → views k ≡ None) → sessions ≡ replicate n Auto → now ≡ 0 → ahead ≡ 1 → StandsFor m base [] base views sessions now ahead busy
+at_first law m base views sessions n now ahead busy none e z w = record {
   state = start base;
-  run = refl;
+  run = law.run_none m (start base);
   is = record {
     stands = record { db = refl; live = none };
     version = sym z;
@@ -301,6 +309,7 @@ at_first m base views sessions n now ahead busy none e z w = record {
 
 -- a statement alone
 pub ran_alone : {D : Type 0} (law : Law D) (m : Meaning D Stmt Answer) (db : D) (es : List (J.Entry Stmt Answer)) (base base' : D) (views views' : ℕ → Option (View D)) (sessions : List Session) (now ahead now' : ℕ) (busy : Bool) (s : ℕ) (q : Stmt) (a : Answer) (w : Bool) → get_or sessions s Auto ≡ Auto → (m.is_read q || m.is_write q) ≡ true → (m.is_write q ≡ true → busy ≡ false) → w ≡ (m.is_write q && not (m.is_refused a)) → now' ≡ now + cond w 1 0 → (a ≡ (m.exec base q).1) × (base' ≡ (m.exec base q).0) → ((k : ℕ) → views' k ≡ views k) → StandsFor m db es base views sessions now ahead busy → StandsFor m db (es ++ Alone s q a w ∷ []) base' views' sessions now' ahead busy
+unfolding Step
 ran_alone {D} law m db es base base' views views' sessions now ahead now' busy s q a w x class turn wrote version r v h =
     let st = h.state in
     let i = h.is in
@@ -331,6 +340,7 @@ ran_alone {D} law m db es base base' views views' sessions now ahead now' busy s
     same_session law old new k (Writing u v) e i = (i.0, law.unit_same old new k u i.0 e i.1, i.2, i.3)
 
 pub alone_failed : {D : Type 0} (law : Law D) (m : Meaning D Stmt Answer) (db : D) (es : List (J.Entry Stmt Answer)) (base base' : D) (views views' : ℕ → Option (View D)) (sessions : List Session) (now ahead : ℕ) (busy : Bool) (s : ℕ) → get_or sessions s Auto ≡ Auto → base' ≡ base → ((k : ℕ) → views' k ≡ views k) → StandsFor m db es base views sessions now ahead busy → StandsFor m db (es ++ Failed s None Fault ∷ []) base' views' sessions now ahead busy
+unfolding Step
 alone_failed law m db es base base' views views' sessions now ahead busy s x e v h =
     let st = h.state in
     let i = h.is in

@@ -410,6 +410,7 @@ pub fn play<E: Engine>(
     ensures explained { IfOk result (λ journal. Explained E.meaning (E.db engine.old) (map entry_of journal.items)) }
     ensures database { IfOk result (λ journal. E.db engine.new ≡ last_database E.meaning (E.db engine.old) (serial (map entry_of journal.items))) }
 {
+    law::<E::Db>();
     let mut hub = Hub::new(alloc, streams)?;
     let mut journal = Vec::new(alloc);
     for ask in asks {

@@ -65,7 +65,7 @@ adds (Ended unit (Undone undo)) = 0
 adds (Failed stream unit cause) = 0
 
 -- how many commits a journal has
-abbrev pub commits : {S A : Type 0} → List (Entry S A) → ℕ
+unfoldable pub commits : {S A : Type 0} → List (Entry S A) → ℕ
 commits [] = 0
 commits (entry ∷ rest) = adds entry + commits rest
 
@@ -105,10 +105,10 @@ gather before txns (Ended unit how) = change unit (with_fate (fate_of before how
 gather before txns (Failed stream None cause) = txns
 gather before txns (Failed stream (Some unit) cause) = change unit (with_fate Dropped) txns
 
-abbrev pub units_from : {S A : Type 0} → ℕ → List (Txn S A) → List (Entry S A) → List (Txn S A)
+unfoldable pub units_from : {S A : Type 0} → ℕ → List (Txn S A) → List (Entry S A) → List (Txn S A)
 units_from before txns [] = txns
 units_from before txns (entry ∷ rest) = units_from (before + adds entry) (gather before txns entry) rest
 
 -- the units of a journal, in the order of their first entries
-abbrev pub units : {S A : Type 0} → List (Entry S A) → List (Txn S A)
+unfoldable pub units : {S A : Type 0} → List (Entry S A) → List (Txn S A)
 units journal = units_from 0 [] journal

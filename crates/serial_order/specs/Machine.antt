@@ -130,7 +130,7 @@ pub record IsFailed {D : Type 0} (old new : State D) (stream : ℕ) : Type 0 whe
   pub same : IsSame old new
 
 -- this entry may lead from the old state to the new one
-abbrev pub Step : {D S A : Type 0} → Meaning D S A → State D → Entry S A → State D → Type 0
+unfoldable pub Step : {D S A : Type 0} → Meaning D S A → State D → Entry S A → State D → Type 0
 Step meaning old (Alone stream stmt answer wrote) new = IsAlone meaning old new stream stmt answer wrote
 Step meaning old (Began unit stream) new = IsBegan old new unit stream
 Step meaning old (Ran unit stmt answer) new = IsRan meaning old new unit stmt answer
@@ -142,7 +142,7 @@ Step meaning old (Failed stream None cause) new = IsFailed old new stream
 Step meaning old (Failed stream (Some unit) cause) new = IsDropped old new unit (λ its. its.stream ≡ stream)
 
 -- the entries of this journal, one after the other, may lead from the old state to the new one
-abbrev pub Run : {D S A : Type 0} → Meaning D S A → State D → List (Entry S A) → State D → Type 0
+unfoldable pub Run : {D S A : Type 0} → Meaning D S A → State D → List (Entry S A) → State D → Type 0
 Run meaning old [] new = new ≡ old
 Run {D} meaning old (entry ∷ rest) new = (mid : State D) × Step meaning old entry mid × Run meaning mid rest new
 
@@ -151,12 +151,12 @@ abbrev pub NoLive : {D : Type 0} → State D → Type 0
 NoLive {D} state = (number : ℕ) → state.live number ≡ None
 
 -- with one turn no unit is live where another begins or a statement runs alone
-abbrev pub HasTurn : {D S A : Type 0} → State D → Entry S A → Type 0
+unfoldable pub HasTurn : {D S A : Type 0} → State D → Entry S A → Type 0
 HasTurn state (Alone stream stmt answer wrote) = NoLive state
 HasTurn state (Began unit stream) = NoLive state
 HasTurn state entry = Unit {0}
 
 -- a run with one turn
-abbrev pub RunByTurns : {D S A : Type 0} → Meaning D S A → State D → List (Entry S A) → State D → Type 0
+unfoldable pub RunByTurns : {D S A : Type 0} → Meaning D S A → State D → List (Entry S A) → State D → Type 0
 RunByTurns meaning old [] new = new ≡ old
 RunByTurns {D} meaning old (entry ∷ rest) new = (mid : State D) × Step meaning old entry mid × HasTurn old entry × RunByTurns meaning mid rest new

@@ -19,12 +19,12 @@ ends unit (Failed stream (Some its) cause) = nat_eq its unit
 ends unit entry = false
 
 -- whether no entry is of another unit, up to the end of this one
-abbrev pub has_the_turn : {S A : Type 0} → ℕ → List (Entry S A) → Bool
+unfoldable pub has_the_turn : {S A : Type 0} → ℕ → List (Entry S A) → Bool
 has_the_turn unit [] = true
 has_the_turn unit (entry ∷ rest) = not (is_of_another unit entry) && (ends unit entry || has_the_turn unit rest)
 
 -- whether no entry of another unit stands between the `Began` of a unit and its end
-abbrev pub one_after_another : {S A : Type 0} → List (Entry S A) → Bool
+unfoldable pub one_after_another : {S A : Type 0} → List (Entry S A) → Bool
 one_after_another [] = true
 one_after_another (Began unit stream ∷ rest) = has_the_turn unit rest && one_after_another rest
 one_after_another (entry ∷ rest) = one_after_another rest

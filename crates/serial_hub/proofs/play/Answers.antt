@@ -9,7 +9,7 @@ use Rattle.serial_hub.proofs.play.Goals.{in-Some+in_ok-push, in_default}
 pub loop-ask-init : goal.loop-ask-init
 loop-ask-init g c =
     let e = c.in_ok-hub.ensures in record {
-      stands = rw c.new-journal.ensures.items (at_first g.E.Engine.meaning _ _ _ c.args.streams _ _ _ c.requires.none_live e.0 e.1 e.2);
+      stands = rw c.new-journal.ensures.items (at_first c.law.ensures g.E.Engine.meaning _ _ _ c.args.streams _ _ _ c.requires.none_live e.0 e.1 e.2);
       version = omega (arith, e.1);
       next = omega (arith, e.2);
     }
