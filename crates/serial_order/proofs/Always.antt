@@ -1,13 +1,12 @@
 -- What every entry of a run keeps, of the state alone and of the state beside its journal.
-use Rattle.std.proofs.Common.{◌≡◌, ◌≢◌, ℕ, zero, suc, ◌+◌, ◌≤◌, Bool, true, false, List, [], ◌∷◌, ◌++◌, filter, length, Option, Some, None, refl, sym, ap, ◌∙◌, subst, inl, inr, add_assoc, add-zero, arith}
-use Rattle.std.specs.List.{AllByRecursion as ByRecursion}
+use Rattle.std.proofs.Common.{◌≡◌, ℕ, suc, ◌+◌, ◌≤◌, Bool, true, List, [], ◌∷◌, Option, Some, None, refl, sym, ap, ◌∙◌, subst, inl, inr, add_assoc, add-zero, arith}
 use Rattle.serial_order.specs.Journal.{Entry, Alone, Began, Ran, Denied, Ended, Failed, Commit, ReadOnly, Undone, Txn, commits, units, is_open}
 use Rattle.serial_order.specs.Serial.{Meaning, after}
 use Rattle.serial_order.specs.Machine.{Live, State, start, IsFree, IsAt, Step, Run}
 use Rattle.serial_order.specs.Explained.{begun, begins, IsOpenAnd, database_at, view_of}
 use Rattle.serial_order.proofs.Lists.{All-weaken, found}
 use Rattle.serial_order.proofs.Fold.{Placed}
-use Rattle.serial_order.proofs.Keep.{Good, Kept, at_cases, of_live}
+use Rattle.serial_order.proofs.Keep.{at_cases, of_live}
 use Rattle.serial_order.proofs.Law.{kept_by_run}
 use Rattle.serial_order.proofs.Explain.{next, start_reached}
 use Rattle.serial_order.proofs.Local.{at_is}
@@ -18,11 +17,9 @@ abbrev IsFresh : {D : Type 0} → State D → Type 0
 IsFresh st = (k : ℕ) → st.next ≤ k → st.live k ≡ None
 
 fresh_same : {D : Type 0} (old new : State D) → new.next ≡ old.next → ((k : ℕ) → new.live k ≡ old.live k) → IsFresh old → IsFresh new
-unfolding words
 fresh_same old new n l h k w = l k ∙ h k (omega arith)
 
 fresh_at : {D : Type 0} (old new : State D) (u : ℕ) (o : Live D) (r : Option (Live D)) → new.next ≡ old.next → old.live u ≡ Some o → IsAt old new u r → IsFresh old → IsFresh new
-unfolding words
 fresh_at old new u o r n is a h k w =
     let none = h k (omega arith) in
     a.others k (λ e. let one : None ≡ Some o = sym none ∙ ap old.live e ∙ is in cc) ∙ none
@@ -45,7 +42,6 @@ fresh_all m old [] new r h = subst (λ st. IsFresh st) (sym r) h
 fresh_all m old (e ∷ es) new r h = fresh_all m r.0 es new r.2 (fresh_step m old e r.0 r.1 h)
 
 pub fresh_law : {D S A : Type 0} (m : Meaning D S A) (db : D) (es : List (Entry S A)) (end : State D) → Run m (start db) es end → (k : ℕ) → end.next ≤ k → end.live k ≡ None
-unfolding words
 fresh_law m db es end r = fresh_all m (start db) es end r (λ k l. refl)
 
 -- two live units of one stream are one
@@ -57,19 +53,15 @@ abbrev WasLive : {D : Type 0} → State D → State D → Type 0
 WasLive {D} old new = (k : ℕ) (p : Live D) → new.live k ≡ Some p → (o : Live D) × (old.live k ≡ Some o) × (o.stream ≡ p.stream)
 
 was_same : {D : Type 0} (old new : State D) → ((k : ℕ) → new.live k ≡ old.live k) → WasLive old new
-unfolding words
 was_same old new l k p e = (p, sym (l k) ∙ e, refl)
 
 was_at : {D : Type 0} (old new : State D) (u : ℕ) (o : Live D) (r : Option (Live D)) → old.live u ≡ Some o → ((p : Live D) → r ≡ Some p → o.stream ≡ p.stream) → IsAt old new u r → WasLive old new
-unfolding words
 was_at old new u o r is f a k p e = elim (at_cases old new u r k p a e) [ inl w ↦ (o, ap old.live w.0 ∙ is, f p w.1) | inr w ↦ (p, w.1, refl) ]
 
 one_was : {D : Type 0} (old new : State D) → WasLive old new → IsOneEach old → IsOneEach new
-unfolding words
 one_was old new w h j k o p e f s = let x = w j o e in let y = w k p f in h j k x.0 y.0 x.1 y.1 (x.2 ∙ s ∙ sym y.2)
 
 one_begun : {D : Type 0} (old new : State D) (u s : ℕ) (o : Live D) → o.stream ≡ s → IsFree old s → IsAt old new u (Some o) → IsOneEach old → IsOneEach new
-unfolding words
 one_begun {D} old new u s o is f a h j k p q e g t = elim (at_cases old new u (Some o) j p a e) [
   | inl x ↦ elim (at_cases old new u (Some o) k q a g) [
     | inl y ↦ x.0 ∙ sym y.0
@@ -82,7 +74,6 @@ one_begun {D} old new u s o is f a h j k p q e g t = elim (at_cases old new u (S
 ]
 
 ran_stream : {D : Type 0} (s v : ℕ) (d : D) (w : Bool) (p : Live D) → Some (record { stream = s; start = v; view = d; is_writer = w }) ≡ Some p → s ≡ p.stream
-unfolding words
 ran_stream {D} s v d w p e = let same : record { stream = s; start = v; view = d; is_writer = w } ≡ p = cc in ap (λ (z : Live D). z.stream) same
 
 one_step : {D S A : Type 0} (m : Meaning D S A) (old : State D) (e : Entry S A) (new : State D) → Step m old e new → IsOneEach old → IsOneEach new
@@ -103,7 +94,6 @@ one_all m old [] new r h = subst (λ st. IsOneEach st) (sym r) h
 one_all m old (e ∷ es) new r h = one_all m r.0 es new r.2 (one_step m old e r.0 r.1 h)
 
 pub one_unit_law : {D S A : Type 0} (m : Meaning D S A) (db : D) (es : List (Entry S A)) (end : State D) → Run m (start db) es end → (j k : ℕ) (o p : Live D) → end.live j ≡ Some o → end.live k ≡ Some p → o.stream ≡ p.stream → j ≡ k
-unfolding words
 one_unit_law {D} m db es end r = one_all m (start db) es end r (λ j k o p e. cc)
 
 -- the next number counts the units that began
@@ -113,23 +103,18 @@ next_all m old [] new r = ap (λ st. st.next) r ∙ sym (add-zero old.next)
 next_all m old (e ∷ es) new r = next_all m r.0 es new r.2 ∙ ap (λ n. n + begins es) (next m old e r.0 r.1) ∙ add_assoc old.next (begun e) (begins es)
 
 pub next_law : {D S A : Type 0} (m : Meaning D S A) (db : D) (es : List (Entry S A)) (end : State D) → Run m (start db) es end → end.next ≡ suc (begins es)
-unfolding words
 next_law m db es end r = next_all m (start db) es end r ∙ omega arith
 
 pub version_law : {D S A : Type 0} (m : Meaning D S A) (db : D) (es : List (Entry S A)) (end : State D) → Run m (start db) es end → end.version ≡ commits es
-unfolding words
 version_law m db es end r = (kept_by_run m db es end r).2.version
 
 pub writer_law : {D S A : Type 0} (m : Meaning D S A) (db : D) (es : List (Entry S A)) (end : State D) → Run m (start db) es end → (u : ℕ) (o : Live D) → end.live u ≡ Some o → o.is_writer ≡ true → o.start ≡ end.version
-unfolding words
 writer_law m db es end r u o i w = let k = (kept_by_run m db es end r).2 in k.writers u o i w ∙ sym k.version
 
 pub one_writer_law : {D S A : Type 0} (m : Meaning D S A) (db : D) (es : List (Entry S A)) (end : State D) → Run m (start db) es end → (j k : ℕ) (o p : Live D) → end.live j ≡ Some o → end.live k ≡ Some p → o.is_writer ≡ true → p.is_writer ≡ true → j ≡ k
-unfolding words
 one_writer_law m db es end r j k o p e f v w = (kept_by_run m db es end r).2.one j k o p e f v w
 
 pub base_law : {D S A : Type 0} (m : Meaning D S A) (db : D) (es : List (Entry S A)) (end : State D) → Run m (start db) es end → end.db ≡ database_at m db (units es) (commits es)
-unfolding words
 base_law m db es end r =
     let k = kept_by_run m db es end r in
     k.2.db ∙ subst (λ d. k.0 (commits es) ≡ database_at m d (units es) (commits es)) k.1
@@ -147,5 +132,4 @@ view_law {D} {S} {A} m db es end r u o i =
     (k.2.listed u o i)
 
 pub started_law : {D S A : Type 0} (m : Meaning D S A) (db : D) (es : List (Entry S A)) (end : State D) → Run m (start db) es end → (u : ℕ) (o : Live D) → end.live u ≡ Some o → o.start ≤ end.version
-unfolding words
 started_law m db es end r u o i = let k = kept_by_run m db es end r in let l = start_reached m k.0 (commits es) (units es) end u o i k.2 in let v = k.2.version in omega arith

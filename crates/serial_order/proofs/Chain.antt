@@ -21,32 +21,26 @@ Chain [] = Unit {0}
 Chain (t ∷ ts) = ByRecursion (Before t) ts × Chain ts
 
 chain_sorted : {S A : Type 0} (ts : List (Txn S A)) → Chain ts → Sorted ts
-unfolding words
 chain_sorted [] h = tt
 chain_sorted (t ∷ ts) h = (All-weaken _ _ ts (λ u b. b.1) h.0, chain_sorted ts h.1)
 
 before-push : {X : Type 0} (P : X → Type 0) (ts : List X) (x : X) → ByRecursion P ts → P x → ByRecursion P (ts ++ x ∷ [])
-unfolding words
 before-push P [] x h p = (p, tt)
 before-push P (t ∷ ts) x h p = (h.0, before-push P ts x h.1 p)
 
 chain-push : {S A : Type 0} (ts : List (Txn S A)) (x : Txn S A) → Chain ts → ByRecursion (λ t. Before t x) ts → Chain (ts ++ x ∷ [])
-unfolding words
 chain-push [] x h b = (tt, tt)
 chain-push (t ∷ ts) x h b = (before-push (Before t) ts x h.0 b.0, chain-push ts x h.1 b.1)
 
 before-map : {S A : Type 0} (P : Txn S A → Type 0) (g : Txn S A → Txn S A) (t : Txn S A) (ts : List (Txn S A)) → ((u : Txn S A) → P u → Before t u → Before (g t) (g u)) → ByRecursion P ts → ByRecursion (Before t) ts → ByRecursion (Before (g t)) (map g ts)
-unfolding words
 before-map P g t [] f p h = tt
 before-map P g t (u ∷ ts) f p h = (f u p.0 h.0, before-map P g t ts f p.1 h.1)
 
 chain-map : {S A : Type 0} (P : Txn S A → Type 0) (g : Txn S A → Txn S A) (ts : List (Txn S A)) → ((t u : Txn S A) → P u → Before t u → Before (g t) (g u)) → ByRecursion P ts → Chain ts → Chain (map g ts)
-unfolding words
 chain-map P g [] f p h = tt
 chain-map P g (t ∷ ts) f p h = (before-map P g t ts (f t) p.1 h.0, chain-map P g ts f p.1 h.1)
 
 filter-map : {X : Type 0} (p : X → Bool) (g : X → X) (ts : List X) → ((t : X) → p (g t) ≡ p t) → filter p (map g ts) ≡ map g (filter p ts)
-unfolding words
 filter-map p g [] h = refl
 filter-map p g (t ∷ ts) h = ap₂ (λ b us. cond b (g t ∷ us) us) (h t) (filter-map p g ts h) ∙ step (p t) g t _
   where
@@ -56,7 +50,7 @@ filter-map p g (t ∷ ts) h = ap₂ (λ b us. cond b (g t ∷ us) us) (h t) (fil
 
 -- a statement more
 ran_before : {S A : Type 0} (q : S) (a : A) (t u : Txn S A) (b c : Bool) → Before t u → Before (cond b (with_done q a t) t) (cond c (with_done q a u) u)
-unfolding key words
+unfolding key
 ran_before q a t u true true h = h
 ran_before q a t u true false h = h
 ran_before q a t u false true h = h
@@ -64,14 +58,14 @@ ran_before q a t u false false h = h
 
 -- a unit closes: those before it were closed, and it gets no lower key
 closing_key : (f g : Fate) (n w : ℕ) → is_open_fate f ≡ true → w ≤ n → (g ≡ Dropped) ⊎ (g ≡ Committed (suc n)) → key_of f w ≤ key_of g w
-unfolding key_of words
+unfolding key_of
 closing_key Open g n w e l (inl h) = subst (λ x. suc (w + w) ≤ key_of x w) (sym h) (omega arith)
 closing_key Open g n w e l (inr h) = subst (λ x. suc (w + w) ≤ key_of x w) (sym h) (omega arith)
 closing_key Dropped g n w e l h = cc
 closing_key (Committed k) g n w e l h = cc
 
 closed_before : {S A : Type 0} (n k : ℕ) (f : Fate) (t u : Txn S A) → (f ≡ Dropped) ⊎ (f ≡ Committed (suc n)) → u.version ≤ n → (b c : Bool) → is_open k t ≡ b → is_open k u ≡ c → Before t u → Before (cond b (with_fate f t) t) (cond c (with_fate f u) u)
-unfolding key words
+unfolding key
 closed_before n k f t u s l true c e d h = let both : is_open k t ≡ false = ap (λ b. b && nat_eq t.number k) h.0 in cc
 closed_before n k f t u s l false true e d h = let w = closing_key u.fate f n u.version (and_parts _ _ d).0 l s in (h.0, omega (arith, h.1, w))
 closed_before n k f t u s l false false e d h = h
@@ -86,11 +80,10 @@ MayBegin sel st (Began u s) = sel s ≡ true → IsQuiet sel st
 MayBegin sel st e = Unit {0}
 
 chosen : {S A : Type 0} → (ℕ → Bool) → List (Txn S A) → List (Txn S A)
-unfolding words
 chosen sel ts = filter (λ t. sel t.stream) ts
 
 begin_before : {D S A : Type 0} (m : Meaning D S A) (at : ℕ → D) (n : ℕ) (ts : List (Txn S A)) (st : State D) (sel : ℕ → Bool) (x : Txn S A) → suc (n + n) ≤ key x → IsQuiet sel st → Kept m at n ts st → ByRecursion (λ t. Before t x) (chosen sel ts)
-unfolding chosen words
+unfolding chosen
 begin_before m at n ts st sel x l quiet k = All-filter (λ t. Before t x) (λ t. sel t.stream) ts (All-weaken _ _ ts
     (λ t g e. (
       elim (cases_Bool (is_open_fate t.fate)) [
@@ -105,28 +98,25 @@ begin_before m at n ts st sel x l quiet k = All-filter (λ t. Before t x) (λ t.
     )) k.each)
 
 push_chosen : {S A : Type 0} (sel : ℕ → Bool) (ts : List (Txn S A)) (x : Txn S A) (b : Bool) → sel x.stream ≡ b → Chain (chosen sel ts) → (b ≡ true → ByRecursion (λ t. Before t x) (chosen sel ts)) → Chain (chosen sel ts ++ cond b (x ∷ []) [])
-unfolding words
 push_chosen sel ts x true e h f = chain-push (chosen sel ts) x h (f refl)
 push_chosen sel ts x false e h f = subst (λ us. Chain us) (sym (append-nil (chosen sel ts))) h
 
 begin_chain : {D S A : Type 0} (m : Meaning D S A) (at : ℕ → D) (n : ℕ) (ts : List (Txn S A)) (st : State D) (sel : ℕ → Bool) (x : Txn S A) → suc (n + n) ≤ key x → (sel x.stream ≡ true → IsQuiet sel st) → Kept m at n ts st → Chain (chosen sel ts) → Chain (chosen sel (ts ++ x ∷ []))
-unfolding chosen words
+unfolding chosen
 begin_chain m at n ts st sel x l quiet k h =
     subst (λ us. Chain us) (sym (filter-push (λ t. sel t.stream) ts x))
     (push_chosen sel ts x (sel x.stream) refl h (λ e. begin_before m at n ts st sel x l (quiet e) k))
 
 done_stream : {S A : Type 0} (sel : ℕ → Bool) (q : S) (a : A) (t : Txn S A) (b : Bool) → sel (cond b (with_done q a t) t).stream ≡ sel t.stream
-unfolding words
 done_stream sel q a t true = refl
 done_stream sel q a t false = refl
 
 fate_stream : {S A : Type 0} (sel : ℕ → Bool) (f : Fate) (t : Txn S A) (b : Bool) → sel (cond b (with_fate f t) t).stream ≡ sel t.stream
-unfolding words
 fate_stream sel f t true = refl
 fate_stream sel f t false = refl
 
 ran_chain : {S A : Type 0} (ts : List (Txn S A)) (sel : ℕ → Bool) (u : ℕ) (q : S) (a : A) → Chain (chosen sel ts) → Chain (chosen sel (change u (with_done q a) ts))
-unfolding chosen words
+unfolding chosen
 ran_chain {S} {A} ts sel u q a h =
     subst (λ us. Chain us) (sym (filter-map (λ t. sel t.stream) (λ t. cond (is_open u t) (with_done q a t) t) ts (λ t. done_stream sel q a t (is_open u t))))
     (chain-map (λ t. Unit {0}) (λ t. cond (is_open u t) (with_done q a t) t) (chosen sel ts) (λ t v p b. ran_before q a t v (is_open u t) (is_open u v) b) (anything (chosen sel ts)) h)
@@ -136,7 +126,7 @@ ran_chain {S} {A} ts sel u q a h =
     anything (t ∷ ts) = (tt, anything ts)
 
 close_chain : {D S A : Type 0} (m : Meaning D S A) (at : ℕ → D) (n : ℕ) (ts : List (Txn S A)) (st : State D) (sel : ℕ → Bool) (u : ℕ) (f : Fate) → (f ≡ Dropped) ⊎ (f ≡ Committed (suc n)) → Kept m at n ts st → Chain (chosen sel ts) → Chain (chosen sel (change u (with_fate f) ts))
-unfolding chosen words
+unfolding chosen
 close_chain {D} {S} {A} m at n ts st sel u f s k h =
     subst (λ us. Chain us) (sym (filter-map (λ t. sel t.stream) (λ t. cond (is_open u t) (with_fate f t) t) ts (λ t. fate_stream sel f t (is_open u t))))
     (chain-map (λ (t : Txn S A). t.version ≤ n) (λ t. cond (is_open u t) (with_fate f t) t) (chosen sel ts)
@@ -144,12 +134,12 @@ close_chain {D} {S} {A} m at n ts st sel u f s k h =
     (All-filter (λ (t : Txn S A). t.version ≤ n) (λ t. sel t.stream) ts (All-weaken _ _ ts (λ t g e. g.placed.past) k.each)) h)
 
 lone_key : (n : ℕ) (b : Bool) → suc (n + n) ≤ key_of (cond b (Committed (suc n)) Dropped) n
-unfolding key_of words
+unfolding key_of
 lone_key n true = omega arith
 lone_key n false = omega arith
 
 step_chain : {D S A : Type 0} (m : Meaning D S A) (at : ℕ → D) (n : ℕ) (ts : List (Txn S A)) (old : State D) (sel : ℕ → Bool) (e : Entry S A) → MayBegin sel old e → Kept m at n ts old → Chain (chosen sel ts) → Chain (chosen sel (gather n ts e))
-unfolding key key_of words
+unfolding key key_of
 step_chain m at n ts old sel (Alone s q a w) b k h = begin_chain m at n ts old sel _ (lone_key n w) b k h
 step_chain m at n ts old sel (Began u s) b k h = begin_chain m at n ts old sel _ (omega arith) b k h
 step_chain m at n ts old sel (Ran u q a) b k h = ran_chain ts sel u q a h
@@ -186,7 +176,6 @@ quiet_order {D} {S} {A} m db sel es end r =
     ∙ sorted_serial m k.0 (commits es) (chosen sel (units es)) (All-filter (Placed m k.0 (commits es)) (λ t. sel t.stream) (units es) (All-weaken _ _ (units es) (λ t g e. g.placed) k.2.each)) (chain_sorted (chosen sel (units es)) c)
 
 free_quiet : {D : Type 0} (st : State D) (s x : ℕ) → IsFree st s → nat_eq x s ≡ true → IsQuiet (λ y. nat_eq y s) st
-unfolding words
 free_quiet st s x f e k o i = ne_eqb o.stream s (f k o i)
 
 run_quiet : {D S A : Type 0} (m : Meaning D S A) (s : ℕ) (old : State D) (es : List (Entry S A)) (new : State D) → Run m old es new → RunQuiet (λ y. nat_eq y s) m old es new
@@ -204,7 +193,6 @@ run_quiet m s old (e ∷ es) new r = (r.0, r.1, may m s old e r.0 r.1, run_quiet
 
 -- the units of one stream keep their order
 pub stream_law : {D S A : Type 0} (m : Meaning D S A) (db : D) (es : List (Entry S A)) (end : State D) → Run m (start db) es end → (s : ℕ) → filter (λ t. nat_eq t.stream s) (serial es) ≡ filter (λ t. nat_eq t.stream s) (units es)
-unfolding words
 stream_law m db es end r s = quiet_order m db (λ y. nat_eq y s) es end (run_quiet m s (start db) es end r)
 
 turns_quiet : {D S A : Type 0} (m : Meaning D S A) (old : State D) (es : List (Entry S A)) (new : State D) → RunByTurns m old es new → RunQuiet (λ y. true) m old es new
@@ -221,11 +209,9 @@ turns_quiet m old (e ∷ es) new r = (r.0, r.1, may old e r.2, turns_quiet m r.0
     may old (Failed x u cause) b = tt
 
 everything : {X : Type 0} (ts : List X) → filter (λ t. true) ts ≡ ts
-unfolding words
 everything [] = refl
 everything (t ∷ ts) = ap (λ us. t ∷ us) (everything ts)
 
 -- with one turn the serial order is the order of the journal
 pub turn_law : {D S A : Type 0} (m : Meaning D S A) (db : D) (es : List (Entry S A)) (end : State D) → RunByTurns m (start db) es end → serial es ≡ units es
-unfolding words
 turn_law m db es end r = sym (everything (serial es)) ∙ quiet_order m db (λ y. true) es end (turns_quiet m (start db) es end r) ∙ everything (units es)

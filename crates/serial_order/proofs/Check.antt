@@ -15,7 +15,6 @@ use Rattle.serial_order.proofs.Words.{words}
 
 -- every unit stands in the serial order
 swap_all : {X : Type 0} (P : X → Type 0) (q : ℕ → X → Bool) (R : ℕ → Type 0) (ts : List X) → ((v : ℕ) → R v → ByRecursion (λ t. q v t ≡ true → P t) ts) → ByRecursion (λ t. (v : ℕ) → R v → q v t ≡ true → P t) ts
-unfolding words
 swap_all P q R [] h = tt
 swap_all P q R (t ∷ ts) h = (λ v l. (h v l).0, swap_all P q R ts (λ v l. (h v l).1))
 
@@ -40,18 +39,15 @@ making P ts (suc n) h v l =
     ]
 
 pub both : {X : Type 0} (P Q : X → Type 0) (ts : List X) → ByRecursion P ts → ByRecursion Q ts → ByRecursion (λ t. P t × Q t) ts
-unfolding words
 both P Q [] h k = tt
 both P Q (t ∷ ts) h k = ((h.0, k.0), both P Q ts h.1 k.1)
 
 either : {D S A : Type 0} (m : Meaning D S A) (at : ℕ → D) (n : ℕ) (P : Type 0) (t : Txn S A) (f : Fate) → t.version ≤ n → IsPlaced m at n t f → ((v : ℕ) → v ≤ n → (not (has_committed f) && nat_eq t.version v) ≡ true → P) → ((v : ℕ) → v < n → is_place (suc v) f ≡ true → P) → P
-unfolding words
 either m at n P t Open l p a b = a t.version l (eq-eqb t.version t.version refl)
 either m at n P t Dropped l p a b = a t.version l (eq-eqb t.version t.version refl)
 either m at n P t (Committed k) l p a b = b t.version (omega (arith, p.0, p.1)) (eq-eqb k (suc t.version) p.0)
 
 from_upto : {D S A : Type 0} (m : Meaning D S A) (at : ℕ → D) (n : ℕ) (P : Txn S A → Type 0) (ts : List (Txn S A)) → ByRecursion (Placed m at n) ts → ByRecursion P (upto ts n) → ByRecursion P ts
-unfolding words
 from_upto {D} {S} {A} m at n P ts g h =
     let a = swap_all P stays_at (λ v. v ≤ n) ts (staying P ts n h) in
     let b = swap_all P (λ v (t : Txn S A). commits_as (suc v) t) (λ v. v < n) ts (making P ts n h) in
@@ -84,35 +80,29 @@ from_units {D} {S} {A} m at b es s h =
     answers_of_runs m at (at 0) (serial es) _ r ∙ map_agree (own_answers m at) (λ (t : Txn S A). map (λ d. d.answer) t.work) (serial es) (All-upto (IsTold m at) (units es) (commits es) h)
 
 pub some_and : {X : Type 0} (P : X → Type 0) (o : Option X) → IsSomeAnd o P → (x : X) × (o ≡ Some x) × P x
-unfolding words
 some_and P None h = elim h [ ]
 some_and P (Some x) h = (x, refl, h)
 
 none_cond : {X : Type 0} (b : Bool) (t : X) (ts : List X) → length (cond b (t ∷ ts) ts) ≡ 0 → (b ≡ false) × (length ts ≡ 0)
-unfolding words
 none_cond true t ts h = cc
 none_cond false t ts h = (refl, h)
 
 none_passes : {X : Type 0} (p : X → Bool) (ts : List X) → length (filter p ts) ≡ 0 → ByRecursion (λ t. p t ≡ false) ts
-unfolding words
 none_passes p [] h = tt
 none_passes p (t ∷ ts) h = let k = none_cond (p t) t _ h in (k.0, none_passes p ts k.1)
 
 -- where at most one passes, the one that is found is the one that passes
 only_cond : {X : Type 0} (p : X → Bool) (x t : X) (ts : List X) (b : Bool) → p x ≡ b → cond b (Some x) (find p ts) ≡ Some t → length (cond b (x ∷ filter p ts) (filter p ts)) ≤ 1 → (find p ts ≡ Some t → length (filter p ts) ≤ 1 → (length (filter p ts) ≡ 1) × ByRecursion (λ y. p y ≡ true → y ≡ t) ts) → (length (cond b (x ∷ filter p ts) (filter p ts)) ≡ 1) × ByRecursion (λ y. p y ≡ true → y ≡ t) (x ∷ ts)
-unfolding words
 only_cond {X} p x t ts true e f l h =
     let z : length (filter p ts) ≡ 0 = omega arith in
     (omega arith, (λ y. cc, All-weaken _ (λ (y : X). p y ≡ true → y ≡ t) ts (λ y n w. cc) (none_passes p ts z)))
 only_cond p x t ts false e f l h = let k = h f l in (k.0, (λ y. cc, k.1))
 
 pub only : {X : Type 0} (p : X → Bool) (t : X) (ts : List X) → find p ts ≡ Some t → length (filter p ts) ≤ 1 → (length (filter p ts) ≡ 1) × ByRecursion (λ y. p y ≡ true → y ≡ t) ts
-unfolding words
 only p t [] f l = cc
 only p t (x ∷ ts) f l = only_cond p x t ts (p x) refl f l (only p t ts)
 
 pub of_map : {X Y : Type 0} (P : Y → Type 0) (g : X → Y) (ts : List X) → ByRecursion P (map g ts) → ByRecursion (λ t. P (g t)) ts
-unfolding words
 of_map P g [] h = tt
 of_map P g (t ∷ ts) h = (h.0, of_map P g ts h.1)
 
@@ -125,16 +115,13 @@ pub record Next {D S A : Type 0} (m : Meaning D S A) (at : ℕ → D) (n b : ℕ
   pub back : ByRecursion (IsTold m at') ts' → ByRecursion (IsTold m at) ts
 
 pub told_back : {D S A : Type 0} (m : Meaning D S A) (at at' : ℕ → D) (n : ℕ) (ts : List (Txn S A)) → ((k : ℕ) → k ≤ n → at' k ≡ at k) → ByRecursion (Placed m at n) ts → ByRecursion (IsTold m at') ts → ByRecursion (IsTold m at) ts
-unfolding words
 told_back m at at' n ts a p h = All-weaken _ (IsTold m at) ts (λ t w. ap (λ d. answers m d t.work) (sym (a t.version w.0.past)) ∙ w.1) (both (Placed m at n) (IsTold m at') ts p h)
 
 later : {D S A : Type 0} (m : Meaning D S A) (at at' : ℕ → D) (n n' : ℕ) (t : Txn S A) → n ≤ n' → ((k : ℕ) → k ≤ n → at' k ≡ at k) → Placed m at n t → Placed m at' n' t
-unfolding words
 later m at at' n n' t l a p = record { past = omega (arith, p.past); place = move_place m at at' n n' t t.fate p.past l a p.place }
 
 -- a unit more, that isn't open and is no commit
 alone_next : {D S A : Type 0} (m : Meaning D S A) (at : ℕ → D) (n b : ℕ) (ts : List (Txn S A)) (s : ℕ) (q : S) (a : A) → Sound m at n b ts → Next m at n b ts n b (ts ++ record { number = 0; stream = s; version = n; work = record { stmt = q; answer = a } ∷ []; fate = Dropped } ∷ [])
-unfolding words
 alone_next m at n b ts s q a h = record {
   at' = at;
   agrees = λ k l. refl;
@@ -171,7 +158,6 @@ wrote_next m at n b ts s q a h =
     }
 
 began_next : {D S A : Type 0} (m : Meaning D S A) (at : ℕ → D) (n b : ℕ) (ts : List (Txn S A)) (u s : ℕ) → u ≡ suc b → Sound m at n b ts → Next m at n b ts n (b + 1) (ts ++ record { number = u; stream = s; version = n; work = []; fate = Open } ∷ [])
-unfolding words
 began_next {D} {S} {A} m at n b ts u s e h = record {
   at' = at;
   agrees = λ k l. refl;
@@ -195,29 +181,24 @@ began_next {D} {S} {A} m at n b ts u s e h = record {
 }
 
 done_number : {S A : Type 0} (b : ℕ) (q : S) (a : A) (t : Txn S A) (c : Bool) → t.number ≤ b → (cond c (with_done q a t) t).number ≤ b
-unfolding words
 done_number b q a t true l = l
 done_number b q a t false l = l
 
 fate_number : {S A : Type 0} (b : ℕ) (f : Fate) (t : Txn S A) (c : Bool) → t.number ≤ b → (cond c (with_fate f t) t).number ≤ b
-unfolding words
 fate_number b f t true l = l
 fate_number b f t false l = l
 
 done_placed : {D S A : Type 0} (m : Meaning D S A) (at : ℕ → D) (n u : ℕ) (q : S) (a : A) (t : Txn S A) (c : Bool) → is_open u t ≡ c → Placed m at n t → Placed m at n (cond c (with_done q a t) t)
-unfolding words
 done_placed m at n u q a t true e p = record { past = p.past; place = open_placed m at n (with_done q a t) t.fate (is_open-parts u t e).0 }
 done_placed m at n u q a t false e p = p
 
 pub done_told : {D S A : Type 0} (m : Meaning D S A) (at : ℕ → D) (q : S) (a : A) (t : Txn S A) (c : Bool) → IsTold m at (cond c (with_done q a t) t) → IsTold m at t
-unfolding words
 done_told {D} {S} {A} m at q a t true h =
     let d : Done S A = record { stmt = q; answer = a } in
     (same_from_push (own_answers m at t) (map (λ x. x.answer) t.work) _ a (sym (answers-push m (at t.version) t.work d) ∙ h ∙ map-append (λ x. x.answer) t.work (d ∷ []))).0
 done_told m at q a t false h = h
 
 ran_next : {D S A : Type 0} (m : Meaning D S A) (at : ℕ → D) (n b : ℕ) (ts : List (Txn S A)) (u : ℕ) (q : S) (a : A) → Sound m at n b ts → Next m at n b ts n b (change u (with_done q a) ts)
-unfolding words
 ran_next {D} {S} {A} m at n b ts u q a h = record {
   at' = at;
   agrees = λ k l. refl;
@@ -232,7 +213,6 @@ ran_next {D} {S} {A} m at n b ts u q a h = record {
 }
 
 close_placed : {D S A : Type 0} (m : Meaning D S A) (at : ℕ → D) (n u : ℕ) (f : Fate) (t : Txn S A) (c : Bool) → is_open u t ≡ c → (is_open u t ≡ true → IsPlaced m at n t f) → Placed m at n t → Placed m at n (cond c (with_fate f t) t)
-unfolding words
 close_placed m at n u f t true e i p = record { past = p.past; place = again m at n t f (i e) }
   where
     again : {D S A : Type 0} (m : Meaning D S A) (at : ℕ → D) (n : ℕ) (t : Txn S A) (f : Fate) → IsPlaced m at n t f → IsPlaced m at n (with_fate f t) f
@@ -242,12 +222,10 @@ close_placed m at n u f t true e i p = record { past = p.past; place = again m a
 close_placed m at n u f t false e i p = p
 
 closed_none : {S A : Type 0} (u : ℕ) (f : Fate) (t : Txn S A) (c : Bool) → is_open_fate f ≡ false → is_open u t ≡ c → is_open u (cond c (with_fate f t) t) ≡ false
-unfolding words
 closed_none u f t true s e = ap (λ b. b && nat_eq t.number u) s
 closed_none u f t false s e = e
 
 close_single : {D S A : Type 0} (m : Meaning D S A) (at : ℕ → D) (n b : ℕ) (ts : List (Txn S A)) (u : ℕ) (f : Fate) → is_open_fate f ≡ false → Sound m at n b ts → (k : ℕ) → length (filter (is_open k) (change u (with_fate f) ts)) ≤ 1
-unfolding words
 close_single {D} {S} {A} m at n b ts u f s h k = elim (cases_eq k u) [
   | inl e ↦
       let z : length (filter (is_open u) (change u (with_fate f) ts)) ≡ 0 = none_length (is_open u) (change u (with_fate f) ts) (All-map _ _ ts (All-weaken _ _ ts (λ t p. closed_none u f t (is_open u t) s refl) h.placed)) in
@@ -256,12 +234,10 @@ close_single {D} {S} {A} m at n b ts u f s h k = elim (cases_eq k u) [
 ]
 
 close_told : {D S A : Type 0} (m : Meaning D S A) (at : ℕ → D) (f : Fate) (t : Txn S A) (c : Bool) → IsTold m at (cond c (with_fate f t) t) → IsTold m at t
-unfolding words
 close_told m at f t true h = h
 close_told m at f t false h = h
 
 dropped_next : {D S A : Type 0} (m : Meaning D S A) (at : ℕ → D) (n b : ℕ) (ts : List (Txn S A)) (u : ℕ) → Sound m at n b ts → Next m at n b ts n b (change u (with_fate Dropped) ts)
-unfolding words
 dropped_next {D} {S} {A} m at n b ts u h = record {
   at' = at;
   agrees = λ k l. refl;
@@ -276,12 +252,10 @@ dropped_next {D} {S} {A} m at n b ts u h = record {
 }
 
 made_last : {D S A : Type 0} (m : Meaning D S A) (at : ℕ → D) (n u : ℕ) (t : Txn S A) → Placed m at n t → (c : Bool) → is_open u t ≡ c → commits_as (suc n) (cond c (with_fate (Committed (suc n)) t) t) ≡ c
-unfolding words
 made_last m at n u t p true e = eq-eqb (suc n) (suc n) refl
 made_last m at n u t p false e = unplaced_fate m at n (suc n) t t.fate (omega arith) p.place
 
 committed_next : {D S A : Type 0} (m : Meaning D S A) (at : ℕ → D) (n b : ℕ) (ts : List (Txn S A)) (u : ℕ) → IsSomeAnd (find (is_open u) ts) (λ t. t.version ≡ n) → Sound m at n b ts → Next m at n b ts (suc n) b (change u (with_fate (Committed (suc n))) ts)
-unfolding words
 committed_next {D} {S} {A} m at n b ts u f h =
     let w = some_and (λ (t : Txn S A). t.version ≡ n) (find (is_open u) ts) f in
     let t = w.0 in
@@ -323,7 +297,6 @@ sound_next m at es (Failed s None cause) o h = rw (add-zero (commits es), add-ze
 sound_next m at es (Failed s (Some u) cause) o h = rw (add-zero (commits es), add-zero (begins es)) (dropped_next m at (commits es) (begins es) (units es) u h)
 
 pub sound_push : {D S A : Type 0} (m : Meaning D S A) (at : ℕ → D) (es : List (Entry S A)) (e : Entry S A) → Order m es e → Sound m at (commits es) (begins es) (units es) → Next m at (commits es) (begins es) (units es) (commits (es ++ e ∷ [])) (begins (es ++ e ∷ [])) (units (es ++ e ∷ []))
-unfolding words
 sound_push m at es e o h = rw (commits-push es e, begins-push es e, units-push es e) (sound_next m at es e o h)
 
 -- the whole answers are those of each beginning

@@ -1,5 +1,5 @@
 -- A journal judged entry by entry, with no machine.
-use Rattle.std.proofs.Common.{◌≡◌, ◌↔◌, List, [], ◌∷◌, ◌++◌, ap, sym, subst, append_assoc, append-nil}
+use Rattle.std.proofs.Common.{◌↔◌, List, [], ◌∷◌, ◌++◌, sym, subst, append_assoc, append-nil}
 use Rattle.serial_order.specs.Journal.{Entry}
 use Rattle.serial_order.specs.Serial.{Meaning}
 use Rattle.serial_order.specs.Explained.{Order, Keeps, ExplainedAfter, Explained, LawfulAfter, Lawful, IsAnswer}

@@ -32,7 +32,6 @@ units-push es e = units_from-push 0 [] es e ∙ ap (λ k. gather k (units es) e)
 
 -- a stream without a unit in the state has none in the journal
 busy : {D S A : Type 0} (m : Meaning D S A) (at : ℕ → D) (n : ℕ) (st : State D) (s : ℕ) (t : Txn S A) → IsFree st s → Good m at n st.live t → is_busy s t ≡ false
-unfolding words
 busy m at n st s t f g = elim (cases_Bool (is_busy s t)) [
   | inl e ↦
       let p = and_parts _ _ e in
@@ -96,7 +95,6 @@ next m old (Failed s (Some u) cause) new b = b.next ∙ sym (add-zero old.next)
 
 -- one more entry keeps it
 pub keep-push : {D S A : Type 0} (m : Meaning D S A) (at : ℕ → D) (es : List (Entry S A)) (old : State D) (e : Entry S A) (new : State D) → Step m old e new → Kept m at (commits es) (units es) old → (at' : ℕ → D) × (at' 0 ≡ at 0) × Kept m at' (commits (es ++ e ∷ [])) (units (es ++ e ∷ [])) new
-unfolding words
 keep-push m at es old e new s k =
     let j = keep m at (commits es) (units es) old e new s k in
     (j.0, j.1, subst (λ ts. Kept m j.0 (commits (es ++ e ∷ [])) ts new) (sym (units-push es e)) (subst (λ c. Kept m j.0 c (gather (commits es) (units es) e) new) (sym (commits-push es e)) j.2))
@@ -118,13 +116,11 @@ unfolding words
 explained_law m db es end r = explained_after m db (λ k. db) [] (start db) es end r refl refl (kept_at_start m db)
 
 some_const : {X : Type 0} (P : Type 0) (o : Option X) → IsSomeAnd o (λ x. P) → P
-unfolding words
 some_const P None h = elim h [ ]
 some_const P (Some x) h = h
 
 -- an open unit began at a version that was reached
 pub start_reached : {D S A : Type 0} (m : Meaning D S A) (at : ℕ → D) (n : ℕ) (ts : List (Txn S A)) (st : State D) (u : ℕ) (o : Live D) → st.live u ≡ Some o → Kept m at n ts st → o.start ≤ n
-unfolding words
 start_reached {D} {S} {A} m at n ts st u o is k =
     some_const (o.start ≤ n) (find (is_open u) ts)
     (found (λ (t : Txn S A). o.start ≤ n) (is_open u) ts (All-weaken _ _ ts (λ t g e. let w = of_live m at n st.live u o t is g e in let p = g.placed.past in subst (λ v. v ≤ n) (sym w.start) p) k.each) (k.listed u o is))

@@ -53,13 +53,11 @@ after-push m db (x ∷ ds) d = after-push m (m.exec db x.stmt).0 ds d
 
 -- a state more
 pub move_place : {D S A : Type 0} (m : Meaning D S A) (at at' : ℕ → D) (n n' : ℕ) (t : Txn S A) (f : Fate) → t.version ≤ n → n ≤ n' → ((k : ℕ) → k ≤ n → at' k ≡ at k) → IsPlaced m at n t f → IsPlaced m at' n' t f
-unfolding words
 move_place m at at' n n' t Open p l a h = tt
 move_place m at at' n n' t Dropped p l a h = tt
 move_place m at at' n n' t (Committed k) p l a h = (h.0, omega (arith, h.1), a k h.1 ∙ h.2 ∙ ap (λ d. after m d t.work) (sym (a t.version p)))
 
 move : {D S A : Type 0} (m : Meaning D S A) (at at' : ℕ → D) (n n' : ℕ) (live live' : ℕ → Option (Live D)) (t : Txn S A) → n ≤ n' → ((k : ℕ) → k ≤ n → at' k ≡ at k) → (is_open_fate t.fate ≡ true → (o : Live D) → live t.number ≡ Some o → live' t.number ≡ live t.number) → Good m at n live t → Good m at' n' live' t
-unfolding words
 move m at at' n n' live live' t l a h g =
     let e = a t.version g.placed.past in record {
       placed = record { past = omega (arith, g.placed.past); place = move_place m at at' n n' t t.fate g.placed.past l a g.placed.place };
@@ -68,16 +66,13 @@ move m at at' n n' live live' t l a h g =
     }
 
 pub is_open-parts : {S A : Type 0} (u : ℕ) (t : Txn S A) → is_open u t ≡ true → (is_open_fate t.fate ≡ true) × (t.number ≡ u)
-unfolding words
 is_open-parts u t e = let p = and_parts _ _ e in (p.0, eqb-true t.number u p.1)
 
 not_open : {S A : Type 0} (u : ℕ) (t : Txn S A) → is_open u t ≡ false → is_open_fate t.fate ≡ true → t.number ≢ u
-unfolding words
 not_open u t e o q = let both : is_open u t ≡ true = ap₂ (λ x y. x && y) o (eq-eqb _ _ q) in cc
 
 -- a unit of a number that isn't live isn't open
 unlisted : {D S A : Type 0} (m : Meaning D S A) (at : ℕ → D) (n : ℕ) (live : ℕ → Option (Live D)) (u : ℕ) (t : Txn S A) → live u ≡ None → Good m at n live t → is_open u t ≡ false
-unfolding words
 unlisted m at n live u t e g = elim (cases_Bool (is_open u t)) [
   | inl o ↦
       let p = is_open-parts u t o in
@@ -89,18 +84,15 @@ unlisted m at n live u t e g = elim (cases_Bool (is_open u t)) [
 
 -- no unit is the commit after the last
 pub unplaced_fate : {D S A : Type 0} (m : Meaning D S A) (at : ℕ → D) (n k : ℕ) (t : Txn S A) (f : Fate) → n < k → IsPlaced m at n t f → is_place k f ≡ false
-unfolding words
 unplaced_fate m at n k t Open l g = refl
 unplaced_fate m at n k t Dropped l g = refl
 unplaced_fate m at n k t (Committed j) l g = ne_eqb j k (λ e. omega (arith, g.1))
 
 unplaced : {D S A : Type 0} (m : Meaning D S A) (at : ℕ → D) (n k : ℕ) (live : ℕ → Option (Live D)) (t : Txn S A) → n < k → Good m at n live t → commits_as k t ≡ false
-unfolding words
 unplaced m at n k live t l g = unplaced_fate m at n k t t.fate l g.placed.place
 
 -- what stands at a number afterwards
 pub at_cases : {D : Type 0} (old new : State D) (u : ℕ) (r : Option (Live D)) (k : ℕ) (p : Live D) → IsAt old new u r → new.live k ≡ Some p → ((k ≡ u) × (r ≡ Some p)) ⊎ ((k ≢ u) × (old.live k ≡ Some p))
-unfolding words
 at_cases old new u r k p h e = elim (cases_eq k u) [
   | inl q ↦ inl (q, sym h.here ∙ ap new.live (sym q) ∙ e)
   | inr q ↦ inr (q, sym (h.others k q) ∙ e)
@@ -108,14 +100,12 @@ at_cases old new u r k p h e = elim (cases_eq k u) [
 
 -- the states are one
 same : {D S A : Type 0} (m : Meaning D S A) (at : ℕ → D) (n : ℕ) (ts : List (Txn S A)) (old new : State D) → IsSame old new → Kept m at n ts old → Kept m at n ts new
-unfolding words
 same m at n ts old new s h =
     let p : old ≡ new = λ i. record { db = sym s.db i; version = sym s.version i; next = sym s.next i; live = fun_ext (λ k. sym (s.live k)) i } in
     subst (λ st. Kept m at n ts st) p h
 
 -- what stands at a number, where the unit u was closed
 pub at_none : {D : Type 0} (old new : State D) (u k : ℕ) (p : Live D) → IsAt old new u None → new.live k ≡ Some p → (k ≢ u) × (old.live k ≡ Some p)
-unfolding words
 at_none old new u k p h e = elim (at_cases old new u None k p h e) [ inl w ↦ cc | inr w ↦ w ]
 
 -- a database more
@@ -123,22 +113,18 @@ abbrev pub put : {D : Type 0} → (ℕ → D) → ℕ → D → ℕ → D
 put at k x j = cond (nat_eq j k) x (at j)
 
 pub put-same : {D : Type 0} (at : ℕ → D) (k : ℕ) (x : D) → put at k x k ≡ x
-unfolding words
 put-same at k x = ap (λ b. cond b x (at k)) (eq-eqb k k refl)
 
 pub put-below : {D : Type 0} (at : ℕ → D) (n : ℕ) (x : D) (j : ℕ) → j ≤ n → put at (suc n) x j ≡ at j
-unfolding words
 put-below at n x j l = ap (λ b. cond b x (at j)) (ne_eqb j (suc n) (λ e. omega arith))
 
 -- tests after a unit closes
 pub open_place : (k : ℕ) (f : Fate) → is_open_fate f ≡ true → is_place k f ≡ false
-unfolding words
 open_place k Open e = refl
 open_place k Dropped e = cc
 open_place k (Committed j) e = cc
 
 pub closed_open : {S A : Type 0} (u k : ℕ) (f : Fate) (t : Txn S A) → is_open_fate f ≡ false → k ≢ u → (b : Bool) → is_open u t ≡ b → is_open k (cond b (with_fate f t) t) ≡ is_open k t
-unfolding words
 closed_open u k f t c ne true e =
     let p = is_open-parts u t e in
     let other : nat_eq t.number k ≡ false = ne_eqb t.number k (λ q. ne (sym q ∙ p.1)) in
@@ -146,28 +132,23 @@ closed_open u k f t c ne true e =
 closed_open u k f t c ne false e = refl
 
 pub closed_place : {S A : Type 0} (u k : ℕ) (f : Fate) (t : Txn S A) → is_place k f ≡ false → (b : Bool) → is_open u t ≡ b → commits_as k (cond b (with_fate f t) t) ≡ commits_as k t
-unfolding words
 closed_place u k f t c true e = c ∙ sym (open_place k t.fate (is_open-parts u t e).0)
 closed_place u k f t c false e = refl
 
 closed_last : {D S A : Type 0} (m : Meaning D S A) (at : ℕ → D) (n : ℕ) (live : ℕ → Option (Live D)) (u : ℕ) (t : Txn S A) → Good m at n live t → (b : Bool) → is_open u t ≡ b → commits_as (suc n) (cond b (with_fate (Committed (suc n)) t) t) ≡ b
-unfolding words
 closed_last m at n live u t g true e = eq-eqb (suc n) (suc n) refl
 closed_last m at n live u t g false e = unplaced m at n (suc n) live t (omega arith) g
 
 pub done_open : {S A : Type 0} (k : ℕ) (q : S) (a : A) (t : Txn S A) → (b : Bool) → is_open k (cond b (with_done q a t) t) ≡ is_open k t
-unfolding words
 done_open k q a t true = refl
 done_open k q a t false = refl
 
 pub done_place : {S A : Type 0} (k : ℕ) (q : S) (a : A) (t : Txn S A) → (b : Bool) → commits_as k (cond b (with_done q a t) t) ≡ commits_as k t
-unfolding words
 done_place k q a t true = refl
 done_place k q a t false = refl
 
 -- a unit that closes, or another one
 close_good : {D S A : Type 0} (m : Meaning D S A) (at at' : ℕ → D) (n n' : ℕ) (old new : State D) (u : ℕ) (f : Fate) (t : Txn S A) → IsAt old new u None → n ≤ n' → ((k : ℕ) → k ≤ n → at' k ≡ at k) → is_open_fate f ≡ false → (is_open u t ≡ true → IsPlaced m at' n' t f) → Good m at n old.live t → (b : Bool) → is_open u t ≡ b → Good m at' n' new.live (cond b (with_fate f t) t)
-unfolding words
 close_good m at at' n n' old new u f t h l a shut place g true e = record {
   placed = record { past = omega (arith, g.placed.past); place = again m at' n' t f (place e) };
   told = ap (λ d. answers m d t.work) (a t.version g.placed.past) ∙ g.told;
@@ -181,7 +162,6 @@ close_good m at at' n n' old new u f t h l a shut place g true e = record {
 close_good m at at' n n' old new u f t h l a shut place g false e = move m at at' n n' old.live new.live t l a (λ o p w. h.others t.number (not_open u t e o)) g
 
 dropped : {D S A : Type 0} (m : Meaning D S A) (at : ℕ → D) (n : ℕ) (ts : List (Txn S A)) (old new : State D) (u : ℕ) (P : Live D → Type 0) → IsDropped old new u P → Kept m at n ts old → Kept m at n (change u (with_fate Dropped) ts) new
-unfolding words
 dropped m at n ts old new u P s h = record {
   version = s.version ∙ h.version;
   db = s.db ∙ h.db;
@@ -196,7 +176,6 @@ dropped m at n ts old new u P s h = record {
 
 -- of the open unit u: its version is the start that the state has, and its view is what its statements leave
 pub of_live : {D S A : Type 0} (m : Meaning D S A) (at : ℕ → D) (n : ℕ) (live : ℕ → Option (Live D)) (u : ℕ) (o : Live D) (t : Txn S A) → live u ≡ Some o → Good m at n live t → is_open u t ≡ true → IsOf m at o t
-unfolding words
 of_live m at n live u o t is g e =
     let p = is_open-parts u t e in
     let w = g.live p.0 in
@@ -205,7 +184,6 @@ of_live m at n live u o t is g e =
     subst (λ x. IsOf m at x t) same (record { stream = w.stream; start = w.start; view = w.view; reads = w.reads })
 
 committed : {D S A : Type 0} (m : Meaning D S A) (at : ℕ → D) (n : ℕ) (ts : List (Txn S A)) (old new : State D) (u : ℕ) → IsCommitted old new u → Kept m at n ts old → Kept m (put at (suc n) new.db) (suc n) (change u (with_fate (Committed (suc n))) ts) new
-unfolding words
 committed {D} m at n ts old new u s h =
     let at' = put at (suc n) new.db in record {
       version = s.version ∙ ap suc h.version;
@@ -233,7 +211,6 @@ ran_unit m o q = record { stream = o.stream; start = o.start; view = (m.exec o.v
 
 -- the unit that ran a statement, or another one
 pub open_placed : {D S A : Type 0} (m : Meaning D S A) (at : ℕ → D) (n : ℕ) (t : Txn S A) (f : Fate) → is_open_fate f ≡ true → IsPlaced m at n t f
-unfolding words
 open_placed m at n t Open e = tt
 open_placed m at n t Dropped e = cc
 open_placed m at n t (Committed k) e = cc
@@ -248,7 +225,6 @@ written-push m (x ∷ ds) d h e = let p = or_none _ _ h in ap₂ (λ a b. a || b
     or_none false b e = (refl, e)
 
 ran_good : {D S A : Type 0} (m : Meaning D S A) (at : ℕ → D) (n : ℕ) (old new : State D) (u : ℕ) (q : S) (a : A) (t : Txn S A) → IsRan m old new u q a → Good m at n old.live t → (b : Bool) → is_open u t ≡ b → Good m at n new.live (cond b (with_done q a t) t)
-unfolding words
 ran_good {D} {S} {A} m at n old new u q a t s g true e =
     let o = s.unit in
     let p = is_open-parts u t e in
@@ -274,13 +250,11 @@ ran_good m at n old new u q a t s g false e = move m at at n n old.live new.live
 
 -- the unit that ran a statement, if it is a writer now, is at the last version, and no other is a writer
 ran_start : {D S A : Type 0} (m : Meaning D S A) (at : ℕ → D) (n : ℕ) (ts : List (Txn S A)) (old new : State D) (u : ℕ) (q : S) (a : A) (s : IsRan m old new u q a) → Kept m at n ts old → (p : Live D) → Some (ran_unit m s.unit q) ≡ Some p → p.is_writer ≡ true → p.start ≡ n
-unfolding words
 ran_start {D} m at n ts old new u q a s h p e w =
     let same : ran_unit m s.unit q ≡ p = cc in
     sym (ap (λ (x : Live D). x.start) same) ∙ elim (or_cases _ _ (ap (λ (x : Live D). x.is_writer) same ∙ w)) [ inl y ↦ h.writers u s.unit s.is y | inr y ↦ s.current y ∙ h.version ]
 
 ran_one : {D S A : Type 0} (m : Meaning D S A) (at : ℕ → D) (n : ℕ) (ts : List (Txn S A)) (old new : State D) (u : ℕ) (q : S) (a : A) (s : IsRan m old new u q a) → Kept m at n ts old → (p : Live D) → Some (ran_unit m s.unit q) ≡ Some p → p.is_writer ≡ true → (k : ℕ) (r : Live D) → old.live k ≡ Some r → r.is_writer ≡ true → u ≡ k
-unfolding words
 ran_one {D} m at n ts old new u q a s h p e w k r i v =
     let same : ran_unit m s.unit q ≡ p = cc in
     elim (or_cases _ _ (ap (λ (x : Live D). x.is_writer) same ∙ w)) [
@@ -289,7 +263,6 @@ ran_one {D} m at n ts old new u q a s h p e w k r i v =
     ]
 
 ran : {D S A : Type 0} (m : Meaning D S A) (at : ℕ → D) (n : ℕ) (ts : List (Txn S A)) (old new : State D) (u : ℕ) (q : S) (a : A) → IsRan m old new u q a → Kept m at n ts old → Kept m at n (change u (with_done q a) ts) new
-unfolding words
 ran {D} m at n ts old new u q a s h =
     let o = s.unit in
     let cases = λ (k : ℕ) (p : Live D) (e : new.live k ≡ Some p). at_cases old new u (Some (ran_unit m o q)) k p s.live e in record {
@@ -311,14 +284,12 @@ ran {D} m at n ts old new u q a s h =
     }
 
 began_writes : {D : Type 0} (old new : State D) (u s : ℕ) (b : IsBegan old new u s) (p : Live D) → Some (record { stream = s; start = old.version; view = old.db; is_writer = b.write }) ≡ Some p → p.is_writer ≡ true → b.write ≡ true
-unfolding words
 began_writes {D} old new u s b p e w =
     let unit : Live D = record { stream = s; start = old.version; view = old.db; is_writer = b.write } in
     let same : unit ≡ p = cc in
     ap (λ (x : Live D). x.is_writer) same ∙ w
 
 began_start : {D : Type 0} (old new : State D) (u s : ℕ) (b : IsBegan old new u s) (p : Live D) → Some (record { stream = s; start = old.version; view = old.db; is_writer = b.write }) ≡ Some p → p.start ≡ old.version
-unfolding words
 began_start {D} old new u s b p e =
     let unit : Live D = record { stream = s; start = old.version; view = old.db; is_writer = b.write } in
     let same : unit ≡ p = cc in
@@ -349,7 +320,6 @@ began {D} {S} {A} m at n ts old new u s b h =
 
 -- a statement alone that didn't write leaves the database
 leaves : {D S A : Type 0} (m : Meaning D S A) (old new : State D) (s : ℕ) (q : S) (a : A) → IsAlone m old new s q a false → new.db ≡ old.db
-unfolding words
 leaves m old new s q a b = b.db ∙ elim (and_cases (m.is_write q) (not (m.is_refused a)) (sym b.wrote)) [
   | inl unwritten ↦ elim (or_cases (m.is_read q) (m.is_write q) b.class) [ inl r ↦ m.read_leaves old.db q r | inr w ↦ cc ]
   | inr refused ↦ m.refusal_leaves old.db q (ap m.is_refused (sym b.answer) ∙ not-false _ refused)
@@ -415,7 +385,6 @@ keep_all m at n ts old (e ∷ es) new r h =
     (j.0, j.1 ∙ k.1, subst (λ c. Kept m j.0 c (units_from (n + adds e) (gather n ts e) es) new) (add_assoc n (adds e) (commits es)) j.2)
 
 pub kept_at_start : {D S A : Type 0} (m : Meaning D S A) (db : D) → Kept m (λ k. db) 0 [] (start db)
-unfolding words
 kept_at_start m db = record {
   version = refl;
   db = refl;

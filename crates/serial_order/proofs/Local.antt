@@ -30,12 +30,10 @@ at_is m at n ts placed once (suc v) l =
     ∙ ap (λ d. last_database m d (filter (commits_as (suc v)) ts)) (at_is m at n ts placed once v (omega arith))
 
 found_cond : {X : Type 0} (P : X → Type 0) (b : Bool) (x t : X) (o : Option X) → cond b (Some x) o ≡ Some t → P x → (o ≡ Some t → P t) → P t
-unfolding words
 found_cond P true x t o e p f = let q : x ≡ t = cc in subst P q p
 found_cond P false x t o e p f = f e
 
 found_is : {X : Type 0} (P : X → Type 0) (p : X → Bool) (ts : List X) (t : X) → find p ts ≡ Some t → ByRecursion P ts → P t
-unfolding words
 found_is P p [] t e h = cc
 found_is P p (x ∷ ts) t e h = found_cond P (p x) x t _ e h.0 (λ f. found_is P p ts t f h.1)
 
@@ -46,25 +44,21 @@ IsAnswerAt m at es (Ran u q a) = IsOpenAnd es u (λ t. a ≡ (m.exec (after m (a
 IsAnswerAt m at es e = Unit {0}
 
 later_told : {D S A : Type 0} (m : Meaning D S A) (at at' : ℕ → D) (n : ℕ) (ts : List (Txn S A)) → ((k : ℕ) → k ≤ n → at' k ≡ at k) → ByRecursion (Placed m at n) ts → ByRecursion (IsTold m at) ts → ByRecursion (IsTold m at') ts
-unfolding words
 later_told m at at' n ts a p h = All-weaken _ (IsTold m at') ts (λ t w. ap (λ d. answers m d t.work) (a t.version w.0.past) ∙ w.1) (both (Placed m at n) (IsTold m at) ts p h)
 
 done_more : {D S A : Type 0} (m : Meaning D S A) (at : ℕ → D) (u : ℕ) (q : S) (a : A) (t : Txn S A) (c : Bool) → is_open u t ≡ c → IsTold m at t → (is_open u t ≡ true → a ≡ (m.exec (after m (at t.version) t.work) q).1) → IsTold m at (cond c (with_done q a t) t)
-unfolding words
 done_more {D} {S} {A} m at u q a t true e h f =
     let d : Done S A = record { stmt = q; answer = a } in
     answers-push m (at t.version) t.work d ∙ ap₂ (λ x y. x ++ y ∷ []) h (sym (f e)) ∙ sym (map-append (λ x. x.answer) t.work (d ∷ []))
 done_more m at u q a t false e h f = h
 
 done_last : {D S A : Type 0} (m : Meaning D S A) (at : ℕ → D) (u : ℕ) (q : S) (a : A) (t : Txn S A) (c : Bool) → is_open u t ≡ c → IsTold m at (cond c (with_done q a t) t) → is_open u t ≡ true → a ≡ (m.exec (after m (at t.version) t.work) q).1
-unfolding words
 done_last {D} {S} {A} m at u q a t true e h o =
     let d : Done S A = record { stmt = q; answer = a } in
     sym (same_from_push (own_answers m at t) (map (λ x. x.answer) t.work) _ a (sym (answers-push m (at t.version) t.work d) ∙ h ∙ map-append (λ x. x.answer) t.work (d ∷ []))).1
 done_last m at u q a t false e h o = cc
 
 close_more : {D S A : Type 0} (m : Meaning D S A) (at : ℕ → D) (f : Fate) (t : Txn S A) (c : Bool) → IsTold m at t → IsTold m at (cond c (with_fate f t) t)
-unfolding words
 close_more m at f t true h = h
 close_more m at f t false h = h
 

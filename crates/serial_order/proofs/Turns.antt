@@ -1,5 +1,5 @@
 -- With one turn no entry of another unit stands between the `Began` of a unit and its end.
-use Rattle.std.proofs.Common.{◌≡◌, ℕ, Bool, true, false, not, ◌&&◌, ◌||◌, nat_eq, List, [], ◌∷◌, Option, Some, None, refl, sym, ap, ap₂, ◌∙◌, inl, inr}
+use Rattle.std.proofs.Common.{◌≡◌, ℕ, Bool, true, false, not, ◌&&◌, ◌||◌, nat_eq, List, [], ◌∷◌, Some, None, refl, sym, ap, ap₂, ◌∙◌, inl, inr}
 use Rattle.std.proofs.lemmas.Bool.{eq-eqb}
 use Rattle.serial_order.specs.Journal.{Entry, Alone, Began, Ran, Denied, Ended, Failed, Commit, ReadOnly, Undone}
 use Rattle.serial_order.specs.Serial.{Meaning}
@@ -15,11 +15,9 @@ record IsOnly {D : Type 0} (st : State D) (u : ℕ) : Type 0 where
   only : (k : ℕ) (p : Live D) → st.live k ≡ Some p → k ≡ u
 
 only_same : {D : Type 0} (old new : State D) (u : ℕ) → IsSame old new → IsOnly old u → IsOnly new u
-unfolding words
 only_same old new u s h = record { unit = h.unit; is = s.live u ∙ h.is; only = λ k p e. h.only k p (sym (s.live k) ∙ e) }
 
 only_ran : {D : Type 0} (old new : State D) (u v : ℕ) (o : Live D) → v ≡ u → IsAt old new v (Some o) → IsOnly old u → IsOnly new u
-unfolding words
 only_ran old new u v o e a h = record {
   unit = o;
   is = ap new.live (sym e) ∙ a.here;
@@ -27,7 +25,6 @@ only_ran old new u v o e a h = record {
 }
 
 only_begun : {D : Type 0} (old new : State D) (u : ℕ) (o : Live D) → NoLive old → IsAt old new u (Some o) → IsOnly new u
-unfolding words
 only_begun old new u o n a = record {
   unit = o;
   is = a.here;
@@ -35,15 +32,12 @@ only_begun old new u o n a = record {
 }
 
 goes_on : (v u : ℕ) (b : Bool) → v ≡ u → b ≡ true → (not (not (nat_eq v u)) && (false || b)) ≡ true
-unfolding words
 goes_on v u b e h = ap₂ (λ x y. not (not x) && (false || y)) (eq-eqb v u e) h
 
 comes_to_end : (v u : ℕ) (b : Bool) → v ≡ u → (not (not (nat_eq v u)) && (nat_eq v u || b)) ≡ true
-unfolding words
 comes_to_end v u b e = ap (λ x. not (not x) && (x || b)) (eq-eqb v u e)
 
 no_begin : {D : Type 0} (P : Type 0) (st : State D) (u : ℕ) → NoLive st → IsOnly st u → P
-unfolding words
 no_begin P st u n h = absurd (let none : None ≡ Some h.unit = sym (n u) ∙ h.is in cc)
 
 turn_kept : {D S A : Type 0} (m : Meaning D S A) (old : State D) (u : ℕ) (es : List (Entry S A)) (new : State D) → RunByTurns m old es new → IsOnly old u → has_the_turn u es ≡ true
