@@ -1,5 +1,5 @@
 -- The hub's entries as those of the law, and what the hub and its engine stand for.
-use Rattle.std.specs.Prelude.{◌≡◌, ◌≤◌, ℕ, Bool, true, false, List, ◌++◌, Option, Some, None, option_map, option_to_list, get_or}
+use Rattle.std.specs.Prelude.{◌≡◌, ℕ, Bool, true, false, List, ◌++◌, Option, Some, None, option_map, option_to_list, get_or}
 use Rattle.serial_order.specs.Journal.{Alone, Began, Ran, Denied, Ended, Failed, Stale, Held, Commit, ReadOnly, Fault}
 use Rattle.serial_order.specs.Journal as J
 use Rattle.serial_order.specs.Serial.{Meaning}

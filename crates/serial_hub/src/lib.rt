@@ -3,7 +3,7 @@
 //! It carries the wrong bodies that only a crate above the law can have, as edits that the check refuses, until the hub of this repository carries them itself.
 #![tactic(auto)]
 
-ghost use Rattle.std.specs.Prelude.{◌≡◌, ◌≢◌, ◌<◌, ◌≤◌, ◌+◌, ◌^◌, ◌||◌, ◌&&◌, not, ℕ, Bool, true, false, Option, Some, None, IsSome, IsNone, List, [], ◌∷◌, replicate, ◌++◌, map, option_map, option_to_list, length, IfOk, OnErr, MatchResult, IsTrue, ◌↔◌};
+ghost use Rattle.std.specs.Prelude.{◌≡◌, ◌≢◌, ◌<◌, ◌≤◌, ◌+◌, ◌^◌, ◌||◌, ◌&&◌, not, ℕ, Bool, true, false, Option, Some, None, IsSome, IsNone, List, [], ◌∷◌, replicate, get_or, ◌++◌, map, option_map, option_to_list, length, IfOk, OnErr, MatchResult, IsTrue, ◌↔◌};
 ghost use Rattle.serial_order.specs.Journal as J;
 ghost use Rattle.serial_order.specs.Serial.{Meaning};
 ghost use Rattle.serial_order.specs.Machine.{State, Run, start};
@@ -259,58 +259,152 @@ impl Hub {
         ensures step { LeadsOn E.meaning (E.db engine.old) (E.live engine.old) self.old result (E.db engine.new) (E.live engine.new) self.new }
         ensures small { (self.new.version ≤ self.old.version + 1) × (self.new.next ≤ self.old.next + 1) }
     {
-        law::<E::Db>();
         match self.sessions[stream] {
             Session::Auto => None,
             Session::Reading { unit, version } => {
                 if stmt.write {
-                    if is_stale(version, self.version) {
-                        return Some(Entry::Stale {
-                            unit,
-                            had: version,
-                            now: self.version,
-                        });
-                    }
-                    if self.busy {
-                        return None;
-                    }
+                    return self.write_first(engine, stream, stmt, unit, version);
                 }
-                match engine.run(unit, stmt) {
-                    Ok(answer) => {
-                        if stmt.write {
-                            self.busy = true;
-                            self.sessions[stream] = Session::Writing { unit, version };
-                        }
-                        Some(Entry::Ran {
-                            unit,
-                            stmt: *stmt,
-                            answer,
-                        })
-                    }
-                    Err(_) => {
-                        self.sessions[stream] = Session::Auto;
-                        Some(Entry::Failed {
-                            stream: stream as u64,
-                            unit,
-                        })
-                    }
-                }
+                self.read(engine, stream, stmt, unit, version)
             }
-            Session::Writing { unit, .. } => match engine.run(unit, stmt) {
-                Ok(answer) => Some(Entry::Ran {
+            Session::Writing { unit, version } => {
+                self.run_on(engine, stream, stmt, unit, version)
+            }
+        }
+    }
+
+    /// Reads in a reader.
+    fn read<E: Engine>(
+        &mut self,
+        engine: &mut E,
+        stream: usize,
+        stmt: &Stmt,
+        unit: u64,
+        version: u64,
+    ) -> Option<Entry>
+        requires within { stream < length self.old.sessions.items }
+        requires session { get_or self.old.sessions.items stream Session.Auto ≡ Session.Reading unit version }
+        requires reads { stmt.now.write ≡ false }
+        requires stands { Stands E.meaning (E.db engine.old) (E.live engine.old) self.old }
+        ensures step { LeadsOn E.meaning (E.db engine.old) (E.live engine.old) self.old result (E.db engine.new) (E.live engine.new) self.new }
+        ensures small { (self.new.version ≤ self.old.version + 1) × (self.new.next ≤ self.old.next + 1) }
+    {
+        law::<E::Db>();
+        match engine.run(unit, stmt) {
+            Ok(answer) => Some(Entry::Ran {
+                unit,
+                stmt: *stmt,
+                answer,
+            }),
+            Err(_) => {
+                self.sessions[stream] = Session::Auto;
+                Some(Entry::Failed {
+                    stream: stream as u64,
+                    unit,
+                })
+            }
+        }
+    }
+
+    /// Writes in a reader, which becomes the writer if it is current and there is none.
+    fn write_first<E: Engine>(
+        &mut self,
+        engine: &mut E,
+        stream: usize,
+        stmt: &Stmt,
+        unit: u64,
+        version: u64,
+    ) -> Option<Entry>
+        requires within { stream < length self.old.sessions.items }
+        requires session { get_or self.old.sessions.items stream Session.Auto ≡ Session.Reading unit version }
+        requires writes { stmt.now.write ≡ true }
+        requires stands { Stands E.meaning (E.db engine.old) (E.live engine.old) self.old }
+        ensures step { LeadsOn E.meaning (E.db engine.old) (E.live engine.old) self.old result (E.db engine.new) (E.live engine.new) self.new }
+        ensures small { (self.new.version ≤ self.old.version + 1) × (self.new.next ≤ self.old.next + 1) }
+    {
+        law::<E::Db>();
+        if is_stale(version, self.version) {
+            return Some(Entry::Stale {
+                unit,
+                had: version,
+                now: self.version,
+            });
+        }
+        if self.busy {
+            return None;
+        }
+        self.become_writer(engine, stream, stmt, unit, version)
+    }
+
+    /// Writes in a current reader, which becomes the writer.
+    fn become_writer<E: Engine>(
+        &mut self,
+        engine: &mut E,
+        stream: usize,
+        stmt: &Stmt,
+        unit: u64,
+        version: u64,
+    ) -> Option<Entry>
+        requires within { stream < length self.old.sessions.items }
+        requires session { get_or self.old.sessions.items stream Session.Auto ≡ Session.Reading unit version }
+        requires writes { stmt.now.write ≡ true }
+        requires current { self.old.version ≤ version }
+        requires free { self.old.busy ≡ false }
+        requires stands { Stands E.meaning (E.db engine.old) (E.live engine.old) self.old }
+        ensures step { LeadsOn E.meaning (E.db engine.old) (E.live engine.old) self.old result (E.db engine.new) (E.live engine.new) self.new }
+        ensures small { (self.new.version ≤ self.old.version + 1) × (self.new.next ≤ self.old.next + 1) }
+    {
+        law::<E::Db>();
+        match engine.run(unit, stmt) {
+            Ok(answer) => {
+                self.busy = true;
+                self.sessions[stream] = Session::Writing { unit, version };
+                Some(Entry::Ran {
                     unit,
                     stmt: *stmt,
                     answer,
-                }),
-                Err(_) => {
-                    self.busy = false;
-                    self.sessions[stream] = Session::Auto;
-                    Some(Entry::Failed {
-                        stream: stream as u64,
-                        unit,
-                    })
-                }
-            },
+                })
+            }
+            Err(_) => {
+                self.sessions[stream] = Session::Auto;
+                Some(Entry::Failed {
+                    stream: stream as u64,
+                    unit,
+                })
+            }
+        }
+    }
+
+    /// Reads or writes in the writer.
+    fn run_on<E: Engine>(
+        &mut self,
+        engine: &mut E,
+        stream: usize,
+        stmt: &Stmt,
+        unit: u64,
+        version: u64,
+    ) -> Option<Entry>
+        requires within { stream < length self.old.sessions.items }
+        requires session { get_or self.old.sessions.items stream Session.Auto ≡ Session.Writing unit version }
+        requires stands { Stands E.meaning (E.db engine.old) (E.live engine.old) self.old }
+        ensures step { LeadsOn E.meaning (E.db engine.old) (E.live engine.old) self.old result (E.db engine.new) (E.live engine.new) self.new }
+        ensures small { (self.new.version ≤ self.old.version + 1) × (self.new.next ≤ self.old.next + 1) }
+    {
+        law::<E::Db>();
+        match engine.run(unit, stmt) {
+            Ok(answer) => Some(Entry::Ran {
+                unit,
+                stmt: *stmt,
+                answer,
+            }),
+            Err(_) => {
+                self.busy = false;
+                self.sessions[stream] = Session::Auto;
+                Some(Entry::Failed {
+                    stream: stream as u64,
+                    unit,
+                })
+            }
         }
     }
 
@@ -427,37 +521,28 @@ mod tests {
     use super::*;
     use std::test::Fail;
 
+    const READ: Stmt = Stmt {
+        write: false,
+        amount: 0,
+    };
+
+    const ADD: Stmt = Stmt {
+        write: true,
+        amount: 5,
+    };
+
+    fn ask(stream: usize, what: What) -> Ask {
+        Ask { stream, what }
+    }
+
     #[test]
     fn a_reader_keeps_its_view(rt: HostRuntime) -> Result<(), Fail> {
-        let read = Stmt {
-            write: false,
-            amount: 0,
-        };
-        let add = Stmt {
-            write: true,
-            amount: 5,
-        };
         let asks = [
-            Ask {
-                stream: 0,
-                what: What::Begin,
-            },
-            Ask {
-                stream: 1,
-                what: What::Alone(add),
-            },
-            Ask {
-                stream: 0,
-                what: What::Run(read),
-            },
-            Ask {
-                stream: 0,
-                what: What::Run(add),
-            },
-            Ask {
-                stream: 1,
-                what: What::Alone(read),
-            },
+            ask(0, What::Begin),
+            ask(1, What::Alone(ADD)),
+            ask(0, What::Run(READ)),
+            ask(0, What::Run(ADD)),
+            ask(1, What::Alone(READ)),
         ];
         let mut engine = NumberEngine::new(10);
         let journal = play(rt.alloc(), &mut engine, 2, &asks)?;
