@@ -1,10 +1,12 @@
 -- A journal judged entry by entry, with no machine.
-use Rattle.std.proofs.Common.{◌↔◌, List, [], ◌∷◌, ◌++◌, sym, subst, append_assoc, append-nil}
-use Rattle.serial_order.specs.Journal.{Entry}
-use Rattle.serial_order.specs.Serial.{Meaning}
-use Rattle.serial_order.specs.Explained.{Order, Keeps, ExplainedAfter, Explained, LawfulAfter, Lawful, IsAnswer}
-use Rattle.serial_order.proofs.Check.{check_law}
-use Rattle.serial_order.proofs.Local.{entry_law}
+use Rattle.std.proofs.Common.{◌≡◌, ◌↔◌, ◌<◌, ℕ, suc, Bool, filter, length, List, [], ◌∷◌, ◌++◌, sym, subst, append_assoc, append-nil}
+use Rattle.serial_order.specs.Journal.{Entry, Txn, commits, units}
+use Rattle.serial_order.specs.Serial.{Meaning, commits_as, serial}
+use Rattle.serial_order.specs.Explained.{begins, Order, Keeps, ExplainedAfter, Explained, LawfulAfter, Lawful, IsAnswer}
+use Rattle.serial_order.proofs.Order.{same_units}
+use Rattle.serial_order.proofs.Law.{one_commit}
+use Rattle.serial_order.proofs.Check.{Sound, sound_at_start, check_law}
+use Rattle.serial_order.proofs.Local.{sound_all, entry_law}
 use Rattle.serial_order.proofs.Words.{words}
 
 lawful_last : {D S A : Type 0} (m : Meaning D S A) (es rest : List (Entry S A)) (e : Entry S A) → LawfulAfter m es (rest ++ e ∷ []) → LawfulAfter m es rest × Order m (es ++ rest) e × Keeps m (es ++ rest) e
@@ -42,3 +44,15 @@ explained_entry_law m db es e = (
       let front = (check_law m db es).0 h.0 in
       (check_law m db (es ++ e ∷ [])).1 (lawful_push m [] es e front.0 h.1 h.2, (entry_law m db es e front.0 h.1 front.1).1 h.3),
 )
+
+-- in a lawful journal each version is made by one unit, and each unit stands in the serial order as often as in the journal
+lawful_sound : {D S A : Type 0} (m : Meaning D S A) (db : D) (es : List (Entry S A)) → Lawful m es → (at : ℕ → D) × Sound m at (commits es) (begins es) (units es)
+unfolding words
+lawful_sound m db es l = let s = sound_all m (λ k. db) [] es l (sound_at_start m db) in (s.0, s.2)
+
+pub lawful_commit_law : {D S A : Type 0} (m : Meaning D S A) (db : D) (es : List (Entry S A)) → Lawful m es → (v : ℕ) → v < commits es → (t : Txn S A) × (filter (commits_as (suc v)) (units es) ≡ t ∷ []) × (t.version ≡ v)
+lawful_commit_law m db es l v w = let s = lawful_sound m db es l in one_commit m s.0 (commits es) (units es) s.1.placed s.1.once v w
+
+pub lawful_units_law : {D S A : Type 0} (m : Meaning D S A) (db : D) (es : List (Entry S A)) → Lawful m es → (p : Txn S A → Bool) → length (filter p (serial es)) ≡ length (filter p (units es))
+unfolding words
+lawful_units_law m db es l p = let s = lawful_sound m db es l in same_units m s.0 (commits es) (units es) s.1.placed p
