@@ -1,0 +1,4 @@
+pub mod Engine
+pub mod Hub
+pub mod Law
+pub mod NumberEngine

@@ -1,0 +1,5 @@
+pub mod Journal
+pub mod Serial
+pub mod Machine
+pub mod Turns
+pub mod Explained
