@@ -1,0 +1,34 @@
+-- Lemmas on what writes do to a sink's bytes.
+use Rattle.std.proofs.Common.{◌≡◌, ℕ, ◌+◌, List, [], ◌∷◌, ◌++◌, Option, None, Some, subst, sym, refl, take, drop, take-append-drop, length, length-drop, arith, ◌-◌, ◌≤◌, append_assoc, append-nil, ◌∙◌, ap}
+use Rattle.std.proofs.Math.Seq.{take-add}
+use Rattle.std.proofs.lemmas.List.{take_rest}
+use Rattle.std.proofs.KnownBytes.{Appends-trans, Appends-kept, Appends-nil}
+use Rattle.std.specs.Io.KnownBytes.{Appends, Keeps}
+use Rattle.engine_core.specs.Bytes.{IsPrefix, AppendsFront}
+
+-- the next m bytes went out after the first n, from the slice `&xs[n..]`
+pub Appends-take_more : (a b c : Option (List ℕ)) (xs : List ℕ) (n m : ℕ) → Appends a b (take n xs) → Appends b c (take m (take (length xs - n) (drop n xs)))
+    → Appends a c (take (n + m) xs)
+Appends-take_more a b c xs n m p q =
+    subst (Appends a c) (sym (take-add n m xs)) (Appends-trans a b c _ _ p (subst (λ l. Appends b c (take m l)) (take_rest xs n) q))
+
+pub within_rest : (xs : List ℕ) (n m : ℕ) → n ≤ length xs → m ≤ length (take (length xs - n) (drop n xs)) → n + m ≤ length xs
+within_rest xs n m p q = let h = simp (take_rest, length-drop) at q in omega arith
+
+-- the first n bytes went out, and then no more
+pub AppendsFront-take : (a b c : Option (List ℕ)) (xs : List ℕ) (n : ℕ) → Appends a b (take n xs) → Keeps b c → AppendsFront a c xs
+AppendsFront-take a b c xs n p q =
+    record { front = take n xs; is_front = record { rest = drop n xs; whole = sym (take-append-drop n xs) }; written = Appends-kept a b c _ p q }
+
+-- a front of bs after bytes that went out whole
+pub AppendsFront-after : (a b c : Option (List ℕ)) (xs bs : List ℕ) → Appends a b xs → AppendsFront b c bs → AppendsFront a c (xs ++ bs)
+AppendsFront-after a b c xs bs p q =
+    record {
+      front = xs ++ q.front;
+      is_front = record { rest = q.is_front.rest; whole = ap (λ l. xs ++ l) q.is_front.whole ∙ sym (append_assoc xs q.front q.is_front.rest) };
+      written = Appends-trans a b c _ _ p q.written;
+    }
+
+-- all of the bytes are a front of them
+pub AppendsFront-whole : (a b : Option (List ℕ)) (xs : List ℕ) → Appends a b xs → AppendsFront a b xs
+AppendsFront-whole a b xs p = record { front = xs; is_front = record { rest = []; whole = sym (append-nil xs) }; written = p }

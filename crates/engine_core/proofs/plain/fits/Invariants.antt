@@ -1,0 +1,10 @@
+use Rattle.std.proofs.Common.{◌≡◌, ◌≤◌, take, length}
+use Rattle.std.specs.Prelude.{sum_by}
+use Rattle.engine_core.specs.Plain.{value_size}
+use Rattle.engine_core.proofs.plain.fits.Given as goal
+
+abbrev pub invariant-loop-value : goal.invariant-loop-value
+invariant-loop-value l = record {
+  counted : l.size ≡ sum_by value_size (take l.value-index l.column);
+  within : l.size ≤ 1048576;
+}

@@ -1,0 +1,9 @@
+pub mod Causes
+pub mod Bytes
+pub mod Engine
+pub mod Journal
+pub mod Noted
+pub mod Plain
+pub mod PlainMeaning
+pub mod Transfer
+pub mod Exit

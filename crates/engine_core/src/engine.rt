@@ -1,0 +1,160 @@
+// An engine runs statements over its tables.
+ghost use Rattle.std.specs.Prelude.{◌≡◌, ◌≤◌, ℕ, Bool};
+ghost use Rattle.serial_order.specs.Serial.{Meaning};
+ghost use Rattle.engine_core.specs.Engine.{is_read, is_write, is_refusal, IsReadOrWrite, answer_of, RunsAlone, RefusesByCode, HasEngineCause};
+ghost use Rattle.engine_core.specs.declared.engine.BoundStmt.{BoundStmt};
+ghost use Rattle.engine_core.specs.declared.engine.Answer.{Answer};
+
+use hrana_stmt::{Code, StmtResult};
+use hrana_value::{StreamNo, Txt, Values};
+
+/// How a `BEGIN` takes the turn: when it first needs it, or at once.
+#[derive(Clone, Copy, Debug, PartialEq, Eq)]
+pub enum Mode {
+    Deferred,
+    Immediate,
+}
+
+/// What kind of statement a text is.
+#[derive(Clone, Copy, Debug, PartialEq, Eq)]
+pub enum Class {
+    Begin(Mode),
+    Commit,
+    Rollback,
+    Savepoint,
+    Barred,
+    Read,
+    Write,
+    Empty,
+}
+
+/// A statement with a value for each of its parameters.
+#[derive(Debug, Drop)]
+pub struct BoundStmt {
+    pub sql: Txt,
+    pub class: Class,
+    pub values: Values,
+}
+
+/// Why an engine didn't run a statement.
+#[derive(Clone, Copy, Debug, PartialEq, Eq)]
+pub enum EngineFail {
+    /// The statement's meaning refuses it. The tables are as they were.
+    Refused(Code),
+    /// The engine broke.
+    Fault,
+    NoMemory,
+}
+
+/// What a statement that the engine ran was answered.
+#[derive(Debug, Drop)]
+pub enum Answer {
+    Gave(StmtResult),
+    Refused(Code),
+}
+
+/// Why a transaction was taken back.
+#[derive(Clone, Copy, Debug, PartialEq, Eq)]
+pub enum Undo {
+    Close,
+    Lost,
+    Expired,
+    Rollback,
+    Stop,
+}
+
+/// How a transaction ended.
+#[derive(Clone, Copy, Debug, PartialEq, Eq)]
+pub enum How {
+    Committed,
+    Read,
+    Undone(Undo),
+}
+
+/// Why a reader may not write.
+#[derive(Clone, Copy, Debug, PartialEq, Eq)]
+pub enum Deny {
+    Stale { had: u64, now: u64 },
+    Held { by: StreamNo },
+}
+
+/// Why the engine gave no answer.
+#[derive(Clone, Copy, Debug, PartialEq, Eq)]
+pub enum Broken {
+    Fault,
+    NoMemory,
+}
+
+/// What a journal notes.
+#[derive(Debug, Drop)]
+pub enum Entry {
+    /// A statement outside a transaction.
+    Alone {
+        stream: StreamNo,
+        stmt: BoundStmt,
+        answer: Answer,
+        wrote: bool,
+    },
+    /// A transaction began. Units are numbered from 1.
+    Began {
+        unit: u64,
+        stream: StreamNo,
+    },
+    /// A statement in a transaction.
+    Ran {
+        unit: u64,
+        stmt: BoundStmt,
+        answer: Answer,
+    },
+    Denied {
+        unit: u64,
+        deny: Deny,
+    },
+    Ended {
+        unit: u64,
+        how: How,
+    },
+    /// The engine broke. Where it names a unit, that unit ended and left nothing.
+    Failed {
+        stream: StreamNo,
+        unit: Option<u64>,
+        cause: Broken,
+    },
+}
+
+/// An engine runs statements over its tables. One that doesn't tell its tables takes a type of one value for `Db`.
+pub trait Engine {
+    /// Whether readers run beside a writer.
+    const SHARED: bool;
+
+    /// What its tables are, to the theorems.
+    type Db;
+
+    /// Whether the engine tells its tables.
+    ghost told: { Bool };
+
+    /// What statements mean, with the two laws: a refusal leaves the database, and so does a read.
+    ghost meaning: { Meaning Self.Db BoundStmt Answer };
+
+    /// The committed database.
+    ghost db: { Self → Self.Db };
+
+    /// How often it has failed.
+    ghost faults: { Self → ℕ };
+
+    /// Runs one statement outside a transaction.
+    fn alone(&mut self, stmt: &BoundStmt) -> Result<StmtResult, EngineFail>
+        requires class { IsReadOrWrite stmt.now.class }
+        ensures runs { RunsAlone told meaning (db self.old) (db self.new) stmt.now (answer_of result) }
+        ensures codes { RefusesByCode result }
+        ensures cause { HasEngineCause told (faults self.old) (faults self.new) result }
+        ensures later { faults self.old ≤ faults self.new };
+
+    /// The meaning takes a statement's class from its field.
+    ghost reads: { (stmt : BoundStmt) → meaning.is_read stmt ≡ is_read stmt.class };
+
+    ghost writes: { (stmt : BoundStmt) → meaning.is_write stmt ≡ is_write stmt.class };
+
+    /// An answer is a refusal where it says so.
+    ghost refusals: { (answer : Answer) → meaning.is_refused answer ≡ is_refusal answer };
+}

@@ -1,0 +1,221 @@
+// The plainest engine: one table `t` with one column `a`, and two statements.
+ghost use Rattle.std.specs.Prelude.{◌≡◌, ◌≤◌, ◌+◌, ◌^◌, ◌∷◌, true, refl, [], map, IfOk};
+ghost use Rattle.engine_core.specs.Engine.{is_write};
+ghost use Rattle.engine_core.specs.Plain.{RunsAs, plain_insert, plain_select, kind_of, first_value, value_size, fits_result, selected, exec_kind};
+ghost use Rattle.engine_core.specs.PlainMeaning.{plain_meaning};
+
+use crate::{BoundStmt, Class, Engine, EngineFail};
+use hrana_stmt::{Code, Col, Cols, Rows, StmtResult};
+use hrana_value::{NoMemory, Txt, Value, Values};
+use std::alloc::Global;
+
+/// The most rows of a result.
+const MAX_ROWS: usize = 4096;
+
+/// The most bytes of a result's values: a null and an integer count 8, a text and a blob 8 and their length.
+const MAX_SIZE: usize = 1048576;
+
+const MAX_ROWID: usize = 9223372036854775806;
+
+/// An engine with one table `t` of one column `a`, empty at first. It knows the two texts
+/// `INSERT INTO t VALUES (?)` and `SELECT a FROM t`, and refuses any other as `SYNTAX`.
+#[derive(Drop)]
+pub struct PlainKeeper {
+    alloc: Global,
+    column: Values,
+}
+
+impl PlainKeeper {
+    pub fn new(alloc: Global) -> Result<PlainKeeper, NoMemory>
+        ensures { IfOk result (λ k. ⟦<PlainKeeper as Engine>⟧.db k ≡ []) }
+    {
+        Ok(PlainKeeper {
+            alloc,
+            column: Values::new(alloc),
+        })
+    }
+}
+
+/// Which statement a text is.
+#[derive(Clone, Copy)]
+enum Kind {
+    Insert,
+    Select,
+    Other,
+}
+
+fn writes(class: Class) -> bool
+    ensures { result ≡ is_write class }
+{
+    match class {
+        Class::Write => true,
+        _ => false,
+    }
+}
+
+fn kind_of_text(write: bool, sql: &str) -> Kind
+    ensures { result ≡ kind_of write sql.now }
+{
+    if write {
+        if sql == "INSERT INTO t VALUES (?)" {
+            Kind::Insert
+        } else {
+            Kind::Other
+        }
+    } else if sql == "SELECT a FROM t" {
+        Kind::Select
+    } else {
+        Kind::Other
+    }
+}
+
+fn value_of(alloc: Global, values: &[Value]) -> Result<Value, NoMemory>
+    ensures { IfOk result (λ v. v ≡ first_value values.now) }
+{
+    match values {
+        [first, ..] => first.copy(alloc),
+        [] => Ok(Value::Null),
+    }
+}
+
+fn insert(alloc: Global, column: &mut Values, values: &[Value]) -> Result<StmtResult, EngineFail>
+    ensures { RunsAs (plain_insert column.old values.now) column.old result column.new }
+{
+    if column.as_slice().len() >= MAX_ROWID {
+        return Err(EngineFail::Refused(Code::Overflow));
+    }
+    let rowid = column.as_slice().len() + 1;
+    let Ok(value) = value_of(alloc, values) else {
+        return Err(EngineFail::NoMemory);
+    };
+    if column.push(value).is_err() {
+        return Err(EngineFail::NoMemory);
+    }
+    Ok(StmtResult {
+        cols: Cols::new(alloc),
+        rows: Rows::new(alloc),
+        affected: 1,
+        last_rowid: Some(rowid as i64),
+    })
+}
+
+fn size_of_value(value: &Value) -> usize
+    ensures size { result ≡ value_size value.now }
+    ensures small { result ≤ 2 ^ 63 + 8 }
+{
+    match value {
+        Value::Null => 8,
+        Value::Integer(_) => 8,
+        Value::Text(text) => 8 + text.as_str().len(),
+        Value::Blob(bytes) => 8 + bytes.as_slice().len(),
+    }
+}
+
+/// Whether the column is a result that may be given.
+fn fits(column: &[Value]) -> bool
+    ensures { result ≡ fits_result column.now }
+{
+    if column.len() > MAX_ROWS {
+        return false;
+    }
+    let mut size = 0;
+    for value in column {
+        size += size_of_value(value);
+        if size > MAX_SIZE {
+            return false;
+        }
+    }
+    true
+}
+
+fn row_of(alloc: Global, value: &Value) -> Result<Values, NoMemory>
+    ensures { IfOk result (λ row. row ≡ value.now ∷ []) }
+{
+    let mut row = Values::new(alloc);
+    row.push(value.copy(alloc)?)?;
+    Ok(row)
+}
+
+fn rows_of(alloc: Global, column: &[Value]) -> Result<Rows, NoMemory>
+    ensures { IfOk result (λ rows. rows ≡ map (λ value. value ∷ []) column.now) }
+{
+    let mut rows = Rows::new(alloc);
+    for value in column {
+        rows.push(row_of(alloc, value)?)?;
+    }
+    Ok(rows)
+}
+
+fn result_of(alloc: Global, column: &[Value]) -> Result<StmtResult, NoMemory>
+    ensures { IfOk result (λ given. given ≡ selected column.now) }
+{
+    let rows = rows_of(alloc, column)?;
+    let mut cols = Cols::new(alloc);
+    cols.push(Col {
+        name: Some(Txt::new(alloc, "a")?),
+    })?;
+    Ok(StmtResult {
+        cols,
+        rows,
+        affected: 0,
+        last_rowid: None,
+    })
+}
+
+fn select(alloc: Global, column: &[Value]) -> Result<StmtResult, EngineFail>
+    ensures { RunsAs (plain_select column.now) column.now result column.now }
+{
+    if !fits(column) {
+        return Err(EngineFail::Refused(Code::ResultTooLarge));
+    }
+    match result_of(alloc, column) {
+        Ok(given) => Ok(given),
+        Err(_) => Err(EngineFail::NoMemory),
+    }
+}
+
+/// Runs the statement that a text is.
+fn run_kind(
+    alloc: Global,
+    kind: Kind,
+    column: &mut Values,
+    values: &[Value],
+) -> Result<StmtResult, EngineFail>
+    ensures { RunsAs (exec_kind kind column.old values.now) column.old result column.new }
+{
+    match kind {
+        Kind::Insert => insert(alloc, column, values),
+        Kind::Select => select(alloc, column.as_slice()),
+        Kind::Other => Err(EngineFail::Refused(Code::Syntax)),
+    }
+}
+
+impl Engine for PlainKeeper {
+    const SHARED: bool = false;
+
+    type Db = Values;
+
+    ghost told = { true };
+
+    ghost meaning = { plain_meaning };
+
+    ghost db = { λ k. k.column };
+
+    ghost faults = { λ _. 0 };
+
+    ghost reads = { λ _. refl };
+
+    ghost writes = { λ _. refl };
+
+    ghost refusals = { λ _. refl };
+
+    fn alone(&mut self, stmt: &BoundStmt) -> Result<StmtResult, EngineFail> {
+        let kind = kind_of_text(writes(stmt.class), stmt.sql.as_str());
+        run_kind(
+            self.alloc,
+            kind,
+            &mut self.column,
+            stmt.values.as_slice(),
+        )
+    }
+}

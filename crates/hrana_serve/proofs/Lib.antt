@@ -1,0 +1,14 @@
+pub mod AddsLemmas
+pub mod EndLemmas
+pub mod HubLemmas
+pub mod LawLemmas
+pub mod LineLemmas
+pub mod MessageLemmas
+pub mod OrderLemmas
+pub mod ReadLemmas
+pub mod ReplayLemmas
+pub mod ReplyLemmas
+pub mod RunLemmas
+pub mod ScriptLemmas
+pub mod SerialLemmas
+pub mod TopLemmas

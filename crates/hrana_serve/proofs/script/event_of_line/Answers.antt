@@ -1,0 +1,12 @@
+use Rattle.std.proofs.Common.{◌≡◌, ◌∙◌, ◌++◌, ◌∷◌, sym, ap, codes, arith}
+use Rattle.hrana_serve.proofs.ScriptLemmas.{no_event, decimal_one}
+use Rattle.hrana_serve.proofs.script.event_of_line.Goals as goal
+
+pub returns-in-Ok-new-clause-ok : goal.returns-in-Ok-new-clause-ok
+returns-in-Ok-new-clause-ok c = record { written = rw (decimal_one, c.in-Ok-new.ensures) c.in-Some-after.ensures; numbers = omega arith }
+
+pub returns-then-is_same-clause-ok : goal.returns-then-is_same-clause-ok
+returns-then-is_same-clause-ok c = record { written = rw decimal_one (c.is_same.ensures.same (search (c.if-is_same.true))); numbers = omega arith }
+
+pub returns-else-is_same-clause-none : goal.returns-else-is_same-clause-none
+returns-else-is_same-clause-none c = λ _ e one is. no_event c.args.line.now c.in_default.ensures c.in_default-after.ensures (c.is_same.ensures.differs c.if-is_same.false) e one is.written

@@ -1,0 +1,7 @@
+use Rattle.std.proofs.Common.{◌≡◌, arith, length, true, IsTrue}
+use Rattle.hrana_serve.proofs.TopLemmas.{replay_word}
+use Rattle.hrana_serve.proofs.LineLemmas.{no_bytes}
+use Rattle.hrana_serve.proofs.top.is_replay.Goals as goal
+
+pub returns-in-len1 : goal.returns-in-len1
+returns-in-len1 c = replay_word c.args.words.now no_bytes c.eq.result (omega arith) c.eq.ensures

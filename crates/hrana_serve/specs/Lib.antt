@@ -1,0 +1,12 @@
+pub mod InOrder
+pub mod Laws
+pub mod Messages
+pub mod Means
+pub mod Replay
+pub mod Run
+pub mod Script
+pub mod State
+pub mod Step
+pub mod Stepped
+pub mod Top
+pub mod Written

@@ -1,0 +1,118 @@
+-- One event of the server, as a relation: the state before it, the entries that it adds, what it gives, and the
+-- state after it.
+use Rattle.std.specs.Prelude.{◌≡◌, ◌<◌, ℕ, ℤ, Bool, true, false, ◌&&◌, List, [], ◌∷◌, ◌++◌, Option, None, Some, length, nat_eq, ◌==◌, MatchBool, if◌then◌else◌, IsSome, IsSomeAnd}
+use Rattle.std.specs.Cmp.Lexicographic.{pointwise}
+use Rattle.hrana_value.specs.declared.value.Value.{Value}
+use Rattle.hrana_value.specs.declared.value.Value.TheVariants.{Null, Integer, Text as TextValue, Blob}
+use Rattle.hrana_stmt.specs.declared.statements.Stmt.{Stmt}
+use Rattle.hrana_stmt.specs.declared.statements.SqlRef.{SqlRef}
+use Rattle.hrana_stmt.specs.declared.statements.SqlRef.TheVariants as sql
+use Rattle.hrana_stmt.specs.declared.statements.NamedArg.{NamedArg}
+use Rattle.engine_core.specs.Plain.{insert_text, select_text}
+use Rattle.engine_core.specs.declared.engine.Entry.{Entry}
+use Rattle.hrana_serve.specs.Messages.{IsMessage}
+use Rattle.hrana_serve.specs.Means.{IsEntryOf, bound, reply_of}
+use Rattle.hrana_serve.specs.Written.{message_of, hello_data, ok_data, opened_data}
+use Rattle.hrana_serve.specs.State.{State}
+use Rattle.hrana_serve.specs.declared.ask.Asked.{Asked}
+use Rattle.hrana_serve.specs.declared.message.ClientMsg.{ClientMsg}
+use Rattle.hrana_serve.specs.declared.message.ClientMsg.TheVariants.{Hello, OpenStream, Execute}
+use Rattle.hrana_serve.specs.declared.replies.Out.{Out}
+use Rattle.hrana_serve.specs.declared.script.Event.{Event}
+use Rattle.hrana_serve.specs.declared.script.Event.TheVariants.{Opened, Text, Poll, Stop}
+
+-- ---- the statements that are built so far
+
+abbrev pub is_one_integer : List Value → Bool
+is_one_integer (Integer z ∷ []) = true
+is_one_integer values = false
+
+abbrev pub is_no_value : List Value → Bool
+is_no_value [] = true
+is_no_value (value ∷ values) = false
+
+abbrev pub is_no_name : List NamedArg → Bool
+is_no_name [] = true
+is_no_name (arg ∷ args) = false
+
+-- an insert of one integer, or the select, of which all rows are wanted
+abbrev pub write_of : List ℕ → Stmt → Option Bool
+write_of text stmt =
+    if pointwise nat_eq text insert_text && is_one_integer stmt.args then Some true
+    else (if pointwise nat_eq text select_text && is_no_value stmt.args then Some false else None)
+
+abbrev pub asked_of_text : ℤ → Stmt → List ℕ → Option Bool → Option Asked
+asked_of_text id stmt text None = None
+asked_of_text id stmt text (Some write) = Some (record { request_id = id; sql = text; values = stmt.args; write = write })
+
+abbrev pub asked_of_sql : ℤ → Stmt → SqlRef → Option Asked
+asked_of_sql id stmt (sql.Text text) = asked_of_text id stmt text (write_of text stmt)
+asked_of_sql id stmt (sql.Id n) = None
+
+-- the request that waits, of an `execute` that is built
+abbrev pub asked_of : ℤ → Stmt → Option Asked
+asked_of id stmt = if stmt.want_rows && is_no_name stmt.named then asked_of_sql id stmt stmt.sql else None
+
+-- ---- what fits
+
+abbrev pub FitsMessage : State → ClientMsg → Type 0
+FitsMessage s Hello = s.greeted ≡ false
+FitsMessage s (OpenStream id stream) = (s.greeted ≡ true) × (s.stream ≡ None)
+FitsMessage s (Execute id stream stmt) = (s.stream ≡ Some stream) × (length s.asks < 32) × IsSome (asked_of id stmt)
+
+pub record FitsText (s : State) (text : List ℕ) : Type 0 where
+  pub message : ClientMsg
+  pub is_message : IsMessage message text
+  pub fits : FitsMessage s message
+
+abbrev pub Fits : State → Event → Type 0
+Fits s (Opened conn) = (conn ≡ 1) × (s.known ≡ false)
+Fits s (Text conn text) = (conn ≡ 1) × (s.known ≡ true) × FitsText s text
+Fits s (Poll stream) = Unit {0}
+Fits s Stop = Unit {0}
+
+-- ---- arrivals
+
+abbrev pub Arrives : State → ClientMsg → Option Out → State → Type 0
+Arrives s Hello out new = (s.greeted ≡ false) × (out ≡ Some (message_of hello_data)) × (new ≡ record s { greeted = true })
+Arrives s (OpenStream id stream) out new = (s.greeted ≡ true) × (s.stream ≡ None)
+    × (out ≡ Some (message_of (ok_data id opened_data))) × (new ≡ record s { stream = Some stream })
+Arrives s (Execute id stream stmt) out new = (s.stream ≡ Some stream) × (length s.asks < 32)
+    × (out ≡ None) × IsSomeAnd (asked_of id stmt) (λ asked. new ≡ record s { asks = s.asks ++ asked ∷ [] })
+
+pub record ArrivesText (s : State) (text : List ℕ) (out : Option Out) (new : State) : Type 0 where
+  pub message : ClientMsg
+  pub is_message : IsMessage message text
+  pub arrives : Arrives s message out new
+
+-- ---- polls
+
+-- nothing happens
+pub record IsIdle (s : State) (added : List Entry) (out : Option Out) (new : State) : Type 0 where
+  pub none : added ≡ []
+  pub silent : out ≡ None
+  pub same : new ≡ s
+
+-- the request is answered by the entry that the poll adds, and the rest still wait
+pub record Answers (asked : Asked) (rest : List Asked) (s : State) (added : List Entry) (out : Option Out) (new : State) : Type 0 where
+  pub entry : Entry
+  pub one : added ≡ entry ∷ []
+  pub is_entry : IsEntryOf (bound asked) entry
+  pub reply : out ≡ Some (reply_of asked.request_id entry)
+  pub left : new ≡ record s { asks = rest }
+
+abbrev pub PollsFirst : List Asked → State → List Entry → Option Out → State → Type 0
+PollsFirst [] s added out new = IsIdle s added out new
+PollsFirst (asked ∷ rest) s added out new = Answers asked rest s added out new
+
+-- a poll of stream 1 answers the oldest request that waits; a poll of another stream does nothing
+abbrev pub Polls : State → ℕ → List Entry → Option Out → State → Type 0
+Polls s stream added out new = MatchBool (stream == 1) (PollsFirst s.asks s added out new) (IsIdle s added out new)
+
+-- ---- one event
+
+abbrev pub Step : State → Event → List Entry → Option Out → State → Type 0
+Step s (Opened conn) added out new = (conn ≡ 1) × (s.known ≡ false) × (added ≡ []) × (out ≡ None) × (new ≡ record s { known = true })
+Step s (Text conn text) added out new = (conn ≡ 1) × (s.known ≡ true) × (added ≡ []) × ArrivesText s text out new
+Step s (Poll stream) added out new = Polls s stream.0 added out new
+Step s Stop added out new = IsIdle s added out new
