@@ -8,6 +8,8 @@ mod memory;
 mod outside;
 mod plain;
 mod status;
+#[cfg(test)]
+mod tests;
 mod transfer;
 
 pub use engine::{

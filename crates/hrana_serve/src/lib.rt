@@ -8,6 +8,8 @@ mod message;
 mod replay;
 mod replies;
 mod script;
+#[cfg(test)]
+mod tests;
 mod top;
 
 pub use engine_core::Status;

@@ -1,0 +1,198 @@
+// What no clause says: that calls succeed, printed texts, and the limits, by values from the documents.
+ghost use Rattle.std.specs.Prelude.{IfOk};
+ghost use Rattle.engine_core.specs.Engine.{IsReadOrWrite};
+
+use crate::*;
+use hrana_stmt::Code;
+use hrana_value::{Bytes, StreamNo, Txt, Value, Values};
+use std::alloc::Global;
+use std::test::Fail;
+
+const INSERT: &str = "INSERT INTO t VALUES (?)";
+
+const SELECT: &str = "SELECT a FROM t";
+
+fn class_if(write: bool) -> Class
+    ensures { IsReadOrWrite result }
+{
+    if write { Class::Write } else { Class::Read }
+}
+
+fn statement(alloc: Global, write: bool, sql: &str, value: Value) -> Result<BoundStmt, NoMemory>
+    ensures { IfOk result (λ stmt. IsReadOrWrite stmt.class) }
+{
+    let mut values = Values::new(alloc);
+    values.push(value)?;
+    Ok(BoundStmt {
+        sql: Txt::new(alloc, sql)?,
+        class: class_if(write),
+        values,
+    })
+}
+
+#[test]
+fn statuses_have_numbers_and_texts(rt: HostRuntime) -> Result<(), Fail> {
+    for (status, number, text) in [
+        (Status::Done, 0, "done"),
+        (Status::BadWords, 2, "bad words"),
+        (Status::BadScript { line: 8 }, 3, "bad line 8"),
+        (Status::ReadFault, 4, "read failed"),
+        (Status::WriteFault, 5, "write failed"),
+        (Status::NoMemory, 11, "out of memory"),
+        (Status::InputTooLong, 12, "input too long"),
+    ] {
+        assert_eq!(rt; status.exit_number(), number, "the number of {text}");
+        assert_eq!(rt; status.to_string(rt.alloc())?.as_str(), text);
+    }
+    Ok(())
+}
+
+#[test]
+fn plain_keeper_runs_two_statements(rt: HostRuntime) -> Result<(), Fail> {
+    let alloc = rt.alloc();
+    let mut keeper = PlainKeeper::new(alloc)?;
+    for rowid in [1, 2] {
+        let given = keeper.alone(&statement(alloc, true, INSERT, Value::Integer(5))?)?;
+        assert_eq!(rt; given.affected, 1);
+        assert_eq!(rt; given.last_rowid, Some(rowid));
+        assert_eq!(rt; given.cols.as_slice().len(), 0);
+        assert_eq!(rt; given.rows.as_slice().len(), 0);
+    }
+    for (write, sql) in [(true, SELECT), (false, INSERT), (false, "select a from t")] {
+        let refused = keeper.alone(&statement(alloc, write, sql, Value::Null)?);
+        assert_eq!(rt;
+            refused.err(),
+            Some(EngineFail::Refused(Code::Syntax)),
+            "at {sql}"
+        );
+    }
+    let given = keeper.alone(&statement(alloc, false, SELECT, Value::Null)?)?;
+    assert_eq!(rt; given.affected, 0);
+    assert_eq!(rt; given.last_rowid, None);
+    assert_eq!(rt; given.cols.as_slice().len(), 1);
+    assert_eq!(rt; given.rows.as_slice().len(), 2);
+    for row in given.rows.as_slice() {
+        assert!(rt; matches!(row.as_slice(), [Value::Integer(5)]));
+    }
+    Ok(())
+}
+
+#[test]
+fn plain_keeper_limits_rows(rt: HostRuntime) -> Result<(), Fail> {
+    let alloc = rt.alloc();
+    let mut keeper = PlainKeeper::new(alloc)?;
+    let insert = statement(alloc, true, INSERT, Value::Null)?;
+    let select = statement(alloc, false, SELECT, Value::Null)?;
+    for _ in 0..4096 {
+        keeper.alone(&insert)?;
+    }
+    assert_eq!(rt; keeper.alone(&select)?.rows.as_slice().len(), 4096);
+    keeper.alone(&insert)?;
+    assert_eq!(rt;
+        keeper.alone(&select).err(),
+        Some(EngineFail::Refused(Code::ResultTooLarge))
+    );
+    Ok(())
+}
+
+#[test]
+fn plain_keeper_limits_bytes(rt: HostRuntime) -> Result<(), Fail> {
+    let alloc = rt.alloc();
+    let mut keeper = PlainKeeper::new(alloc)?;
+    let select = statement(alloc, false, SELECT, Value::Null)?;
+    // A blob counts 8 and its length, so that one is 1,048,576 bytes.
+    let blob = Value::Blob(Bytes::from_vec(vec![in alloc; 0u8; 1048568]?));
+    keeper.alone(&statement(alloc, true, INSERT, blob)?)?;
+    assert_eq!(rt; keeper.alone(&select)?.rows.as_slice().len(), 1);
+    keeper.alone(&statement(alloc, true, INSERT, Value::Null)?)?;
+    assert_eq!(rt;
+        keeper.alone(&select).err(),
+        Some(EngineFail::Refused(Code::ResultTooLarge))
+    );
+    Ok(())
+}
+
+#[test]
+fn listed_calls_fail(rt: HostRuntime) -> Result<(), Fail> {
+    let alloc = rt.alloc();
+    let mut source = ByteSource::new(alloc, b"abc", &[2])?;
+    let mut buf = [0u8; 2];
+    for wanted in [Ok(2), Err(Failed), Ok(1), Ok(0)] {
+        assert_eq!(rt; source.read(&mut buf), wanted);
+    }
+    let mut sink = ByteSink::new(alloc, &[1, 3])?;
+    for wanted in [Err(Failed), Ok(2), Err(Failed), Ok(2)] {
+        assert_eq!(rt; sink.write(b"ab"), wanted);
+    }
+    assert_eq!(rt; sink.bytes(), b"abab".as_slice());
+    let mut engine = Failing::new(alloc, PlainKeeper::new(alloc)?, &[1, 3])?;
+    let insert = statement(alloc, true, INSERT, Value::Null)?;
+    assert_eq!(rt; engine.alone(&insert).err(), Some(EngineFail::Fault));
+    assert_eq!(rt; engine.alone(&insert)?.last_rowid, Some(1));
+    assert_eq!(rt; engine.alone(&insert).err(), Some(EngineFail::Fault));
+    assert_eq!(rt; engine.alone(&insert)?.last_rowid, Some(2));
+    Ok(())
+}
+
+#[test]
+fn sources_are_read_whole(rt: HostRuntime) -> Result<(), Fail> {
+    let alloc = rt.alloc();
+    assert_eq!(rt;
+        read_all(alloc, &mut ByteSource::new(alloc, b"abc", &[])?)?.as_slice(),
+        b"abc".as_slice()
+    );
+    assert_eq!(rt;
+        read_all(alloc, &mut ReaderSource::new(b"abc".as_slice()))?.as_slice(),
+        b"abc".as_slice()
+    );
+    for at in [1, 2] {
+        let read = read_all(alloc, &mut ByteSource::new(alloc, b"abc", &[at])?);
+        assert_eq!(rt; read.err(), Some(ReadAllFail::Fault), "at call {at}");
+    }
+    Ok(())
+}
+
+#[test]
+fn pieces_are_written_whole(rt: HostRuntime) -> Result<(), Fail> {
+    let alloc = rt.alloc();
+    let mut sink = ByteSink::new(alloc, &[2])?;
+    assert_eq!(rt; write_all(&mut sink, b"ab"), Ok(()));
+    assert_eq!(rt; write_all(&mut sink, b"cd"), Err(Failed));
+    assert_eq!(rt; write_all(&mut sink, b"ef"), Ok(()));
+    assert_eq!(rt; sink.bytes(), b"abef".as_slice());
+    let mut written = Vec::new(alloc);
+    assert_eq!(rt;
+        write_all(&mut WriterSink::new(&mut written), b"ab"),
+        Ok(())
+    );
+    assert_eq!(rt; written.as_slice(), b"ab".as_slice());
+    Ok(())
+}
+
+#[test]
+fn entries_keep_their_order(rt: HostRuntime) -> Result<(), Fail> {
+    let mut entries = Entries::new(rt.alloc())?;
+    entries.reserve(2)?;
+    entries.push(Entry::Began {
+        unit: 1,
+        stream: StreamNo(1),
+    });
+    entries.push(Entry::Ended {
+        unit: 1,
+        how: How::Read,
+    });
+    assert_eq!(rt; entries.next_unit(), 2);
+    assert!(rt;
+        matches!(
+            entries.into_vec().as_slice(),
+            [
+                Entry::Began { unit: 1, .. },
+                Entry::Ended {
+                    unit: 1,
+                    how: How::Read
+                }
+            ]
+        )
+    );
+    Ok(())
+}
