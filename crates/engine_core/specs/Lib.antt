@@ -2,6 +2,7 @@ pub mod Causes
 pub mod Bytes
 pub mod Engine
 pub mod Journal
+pub mod Listed
 pub mod Noted
 pub mod Plain
 pub mod PlainMeaning

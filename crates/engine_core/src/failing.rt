@@ -17,8 +17,11 @@ pub struct Failing<E: Engine + Drop> {
 }
 
 impl<E: Engine + Drop> Failing<E> {
+    ghost use Rattle.engine_core.specs.Listed.{engine_calls};
+
     pub fn new(alloc: Global, engine: E, fail_at: &[u64]) -> Result<Failing<E>, NoMemory>
-        ensures { IfOk result (λ f. ⟦<Failing<E> as Engine>⟧.db f ≡ E.db engine) }
+        ensures db { IfOk result (λ f. ⟦<Failing<E> as Engine>⟧.db f ≡ E.db engine) }
+        ensures calls { IfOk result (λ f. engine_calls f ≡ record { fail_at = fail_at.now; calls = 0 }) }
     {
         Ok(Failing {
             engine,

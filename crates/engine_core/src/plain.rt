@@ -211,11 +211,6 @@ impl Engine for PlainKeeper {
 
     fn alone(&mut self, stmt: &BoundStmt) -> Result<StmtResult, EngineFail> {
         let kind = kind_of_text(writes(stmt.class), stmt.sql.as_str());
-        run_kind(
-            self.alloc,
-            kind,
-            &mut self.column,
-            stmt.values.as_slice(),
-        )
+        run_kind(self.alloc, kind, &mut self.column, stmt.values.as_slice())
     }
 }

@@ -10,9 +10,7 @@ pub enum Status {
     Done,
     BadWords,
     /// The line, from 1, that is no event's line, or whose event doesn't fit.
-    BadScript {
-        line: u64,
-    },
+    BadScript { line: u64 },
     ReadFault,
     WriteFault,
     NoMemory,

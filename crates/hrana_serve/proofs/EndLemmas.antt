@@ -1,5 +1,5 @@
 -- What the end of the lines says of the whole run.
-use Rattle.std.proofs.Common.{◌≡◌, ℕ, ◌+◌, List, [], ◌∷◌, ◌++◌, Bool, IsTrue, Option, None, Some, subst, sym, refl, ap, ◌∙◌, arith, length, length-append, append-nil, append_assoc, map}
+use Rattle.std.proofs.Common.{◌≡◌, ℕ, ◌+◌, ◌<◌, ◌≤◌, ◌⊎◌, inl, inr, List, [], ◌∷◌, ◌++◌, Bool, IsTrue, Option, None, Some, subst, sym, refl, ap, ◌∙◌, arith, length, length-append, append-nil, append_assoc, map}
 use Rattle.std.specs.Prelude.{IfSome}
 use Rattle.std.specs.Io.KnownBytes.{Keeps}
 use Rattle.std.proofs.KnownBytes.{Keeps-refl, Appends-nil}
@@ -14,7 +14,7 @@ use Rattle.engine_core.specs.declared.status.Status.TheVariants as status
 use Rattle.hrana_serve.specs.State.{State, first_state}
 use Rattle.hrana_serve.specs.Step.{Fits}
 use Rattle.hrana_serve.specs.Run.{Run, nothing, more, ReadsAs}
-use Rattle.hrana_serve.specs.Replay.{Halted, Replayed, IsRunOf, StopsAs, WritesAs, PrintsFront}
+use Rattle.hrana_serve.specs.Replay.{Halted, Replayed, IsRunOf, StopsAs, WritesAs, IsLinesStatus}
 use Rattle.hrana_serve.specs.Top.{JournalFits, OutputExact, AnswersInOrder, IsFirstBad}
 use Rattle.hrana_serve.specs.declared.replies.Out.{Out}
 use Rattle.hrana_serve.specs.declared.script.Event.{Event}
@@ -22,7 +22,7 @@ use Rattle.hrana_serve.specs.declared.script.Event.TheVariants.{Stop}
 use Rattle.hrana_serve.proofs.OrderLemmas.{replies_follow, same_length}
 use Rattle.hrana_serve.proofs.ReadLemmas.{reads_one, reads_same, reads_split}
 use Rattle.hrana_serve.proofs.ReplayLemmas.{whole_front}
-use Rattle.hrana_serve.proofs.TopLemmas.{any_bytes}
+use Rattle.hrana_serve.proofs.TopLemmas.{any_bytes, told_bytes}
 use Rattle.hrana_serve.proofs.RunLemmas.{snoc_one, same_outs, same_state, step_fits, run_split}
 
 -- the run goes on by `Stop`
@@ -126,3 +126,26 @@ always_in_order left count J = any_bytes left _ (λ bytes. in_order bytes count 
 -- the last database of no entries is the first
 pub once_last : {D : Type 0} (m : Meaning D BoundStmt Answer) (db : D) (items : List Entry) → items ≡ [] → db ≡ last_database m db (serial []) → db ≡ last_database m db (serial (map entry_of items))
 once_last m db items empty p = subst (λ l. db ≡ last_database m db (serial (map entry_of l))) (sym empty) p
+
+-- ---- valid input is done
+
+abbrev IsDone : Status → Type 0
+IsDone end = (end ≡ status.Done) ⊎ (end ≡ status.NoMemory)
+
+done_or_short : (end : Status) → IsLinesStatus end → ((number : ℕ) → end ≡ status.BadScript number → ⊥) → (end ≡ status.WriteFault → ⊥) → IsDone end
+done_or_short status.Done lines bad fault = inl refl
+done_or_short (status.BadScript number) lines bad fault = absurd (bad number refl)
+done_or_short status.WriteFault lines bad fault = absurd (fault refl)
+done_or_short status.NoMemory lines bad fault = inr refl
+done_or_short status.BadWords lines bad fault = absurd lines
+done_or_short status.ReadFault lines bad fault = absurd lines
+done_or_short status.InputTooLong lines bad fault = absurd lines
+
+-- what the clause says of the script
+abbrev IsComplete : Status → List ℕ → Type 0
+IsComplete end script = length script ≤ 67108864 → ((line : ℕ) → IsFirstBad (lines_of script) line → ⊥) → IsDone end
+
+pub complete_lines : (left : Option (List ℕ)) (bytes : List ℕ) (L : List (List ℕ)) (end : Status) (count : ℕ) (held holds : Option (List ℕ)) (J : List Entry) → IfSome left (λ all. all ≡ bytes) → L ≡ lines_of bytes → Replayed L end count held holds J
+    → IsLinesStatus end → (end ≡ status.WriteFault → ⊥) → IfSome left (λ script. length script ≤ 67108864 → ((line : ℕ) → IsFirstBad (lines_of script) line → ⊥) → (end ≡ status.Done) ⊎ (end ≡ status.NoMemory))
+complete_lines left bytes L end count held holds J told e r ends fault =
+    told_bytes left bytes (IsComplete end) told (λ small none. done_or_short end ends (λ number is. none number (first_bad L bytes end number count held holds J is e r)) fault)

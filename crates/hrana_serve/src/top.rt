@@ -1,5 +1,5 @@
 // The top call.
-ghost use Rattle.std.specs.Prelude.{◌≡◌, ◌↔◌, ◌<◌, ◌≤◌, ℕ, [], map, IfSome, IsTrue, IfOk};
+ghost use Rattle.std.specs.Prelude.{◌≡◌, ◌↔◌, ◌<◌, ◌≤◌, ◌⊎◌, ℕ, [], length, map, IfSome, IsTrue, IfOk};
 ghost use Rattle.serial_order.specs.Serial.{serial, last_database};
 ghost use Rattle.serial_order.specs.Explained.{Explained};
 ghost use Rattle.engine_core.specs.Bytes.{lines_of};
@@ -84,6 +84,8 @@ pub fn hrana<I: Source, O: Sink, E: Engine>(
     ensures input_too_long { IsReplay (map (λ word. word.now) words.now) → IfSome (I.left world.old.source) (λ _. (result.status ≡ Status.InputTooLong) ↔ (67108864 < given_count (I.left world.old.source) (I.left world.new.source))) }
     ensures read_fault { result.status ≡ Status.ReadFault → Rose (I.faults world.old.source) (I.faults world.new.source) }
     ensures write_fault { result.status ≡ Status.WriteFault → Rose (O.faults world.old.sink) (O.faults world.new.sink) }
+    ensures complete { IsReplay (map (λ word. word.now) words.now) → (Rose (I.faults world.old.source) (I.faults world.new.source) → ⊥) → (Rose (O.faults world.old.sink) (O.faults world.new.sink) → ⊥)
+        → IfSome (I.left world.old.source) (λ script. length script ≤ 67108864 → ((line : ℕ) → IsFirstBad (lines_of script) line → ⊥) → (result.status ≡ Status.Done) ⊎ (result.status ≡ Status.NoMemory)) }
     ensures engine_faults { RoseBy (fault_count result.unsaved.items) (E.faults world.old.engine) (E.faults world.new.engine) }
 {
     serial_order::<E::Db, BoundStmt, Answer>();

@@ -1,7 +1,7 @@
 use Rattle.std.proofs.Common.{◌≡◌, map, sym, ◌∙◌, rules}
 use Rattle.serial_order.specs.Machine.{start}
 use Rattle.engine_core.specs.Bytes.{lines_of}
-use Rattle.hrana_serve.proofs.EndLemmas.{bad_words_at_once, read_fault_at_once, too_long_at_once, no_memory_at_once, once_fits, once_exact, once_last, always_in_order, journal_fits, output_exact, no_bad}
+use Rattle.hrana_serve.proofs.EndLemmas.{bad_words_at_once, read_fault_at_once, too_long_at_once, no_memory_at_once, once_fits, once_exact, once_last, always_in_order, complete_lines, journal_fits, output_exact, no_bad}
 use Rattle.hrana_serve.proofs.SerialLemmas.{from_start, kept_run}
 use Rattle.hrana_serve.proofs.TopLemmas.{told_bytes}
 use Rattle.hrana_serve.proofs.top.hrana.Goals as goal
@@ -104,3 +104,9 @@ returns-clause-done g c = λ is.
     let a = c.play-halt.ensures.adds in
     let e : map (λ line. line.now) c.as_slice-2.result.now ≡ lines_of c.in-Ok.bytes.items = search rules in
     told_bytes _ _ _ c.in-Ok.ensures.whole (no_bad _ c.in-Ok.bytes.items _ _ _ _ _ is e a.holds)
+
+pub returns-clause-complete : goal.returns-clause-complete
+returns-clause-complete g c = λ _ _ fault.
+    let a = c.play-halt.ensures.adds in
+    let e : map (λ line. line.now) c.as_slice-2.result.now ≡ lines_of c.in-Ok.bytes.items = search rules in
+    complete_lines _ c.in-Ok.bytes.items _ _ _ _ _ _ c.in-Ok.ensures.whole e a.holds c.play-halt.ensures.ends (λ is. fault (c.play-halt.ensures.write is))

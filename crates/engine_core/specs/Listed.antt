@@ -1,0 +1,23 @@
+-- The calls of an object in memory that fail: their numbers are listed, counted from 1 over all calls of the object.
+use Rattle.std.specs.Prelude.{ℕ, ◌+◌, ◌-◌, ◌^◌, min, List, Contains}
+use Rattle.engine_core.specs.declared.memory.ByteSource.{ByteSource}
+use Rattle.engine_core.specs.declared.memory.ByteSink.{ByteSink}
+use Rattle.engine_core.specs.declared.failing.Failing.{Failing}
+
+-- the listed numbers, and how many calls there were
+pub record Listed : Type 0 where
+  pub fail_at : List ℕ
+  pub calls : ℕ
+
+abbrev pub source_calls : ByteSource → Listed
+source_calls s = record { fail_at = s.fail_at.items; calls = s.calls }
+
+abbrev pub sink_calls : ByteSink → Listed
+sink_calls s = record { fail_at = s.fail_at.items; calls = s.calls }
+
+abbrev pub engine_calls : {E D : Type 0} → Failing E D → Listed
+engine_calls f = record { fail_at = f.fail_at.items; calls = f.calls }
+
+-- the next call fails. The count of calls stays at its last value once it is there.
+abbrev pub FailsNext : Listed → Type 0
+FailsNext l = Contains l.fail_at (min (l.calls + 1) (2 ^ 64 - 1))
