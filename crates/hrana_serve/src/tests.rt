@@ -203,17 +203,12 @@ fn no_33rd_request_waits(rt: HostRuntime) -> Result<(), Fail> {
 #[test]
 fn words_of_no_form_are_bad(rt: HostRuntime) -> Result<(), Fail> {
     let alloc = rt.alloc();
-    for words in [
-        [].as_slice(),
-        ["play"].as_slice(),
-        ["Replay"].as_slice(),
-        ["replay", "x"].as_slice(),
-        ["--help"].as_slice(),
-    ] {
+    for text in ["", "play", "Replay", "replay x", "replay replay", "--help"] {
+        let words: Vec<&str> = text.split_whitespace().collect(alloc)?;
         let keeper = PlainKeeper::new(alloc)?;
-        let (ended, sink) = play(alloc, words, HELLO.as_bytes(), &[], &[], keeper)?;
-        assert_eq!(rt; ended.status, Status::BadWords, "at {words:?}");
-        assert_eq!(rt; sink.bytes(), b"".as_slice(), "at {words:?}");
+        let (ended, sink) = play(alloc, words.as_slice(), HELLO.as_bytes(), &[], &[], keeper)?;
+        assert_eq!(rt; ended.status, Status::BadWords, "at {text}");
+        assert_eq!(rt; sink.bytes(), b"".as_slice(), "at {text}");
     }
     Ok(())
 }
