@@ -1,5 +1,7 @@
 // Arguments from JSON trees.
-ghost use Rattle.std.specs.Prelude.{◌≡◌, ◌+◌, ◌≤◌, ◌<◌};
+ghost use Rattle.hrana_value.specs.Trees.{ArrayTree};
+ghost use Rattle.hrana_stmt.specs.Written.{named_arg_data, named_args_data, named_arg_object};
+ghost use Rattle.std.specs.Prelude.{◌≡◌, IfOk, ◌+◌, ◌≤◌, ◌<◌};
 ghost use Rattle.serde_json.specs.View.{view, items_view};
 ghost use Rattle.hrana_value.specs.Declines.{Reads, Only, EitherStands};
 ghost use Rattle.hrana_value.specs.Members.{TextStands};
@@ -11,10 +13,10 @@ ghost use Rattle.hrana_stmt.specs.Tree.{NamedArgTree, NamedArgStands, NamedArgsT
 
 use crate::{NamedArg, NamedArgs};
 use hrana_value::{
-    Decline, ReadFail, Values, both, member, optional_values_of_json, text_of_json, value_of_json,
-    with_item,
+    Decline, NoMemory, ReadFail, Values, both, member, optional_values_of_json, text_of_json,
+    value_of_json, value_to_json, with_item,
 };
-use serde_json::Value as Json;
+use serde_json::{Map, Value as Json, json, put};
 use std::alloc::Global;
 
 /// The most arguments of a statement, both kinds together.
@@ -98,4 +100,34 @@ pub fn arguments_of_json(
         Ok((read, ())) => Ok(read),
         Err(fail) => Err(fail),
     }
+}
+
+fn named_arg_members(alloc: Global, name: &str, value: Json) -> Result<Json, NoMemory>
+    ensures { IfOk result (λ json. view json ≡ named_arg_object name.now (view value)) }
+{
+    let mut members = Map::new(alloc);
+    let name = json!(in alloc; name)?;
+    put(&mut members, alloc, "name", name)?;
+    put(&mut members, alloc, "value", value)?;
+    Ok(Json::Object(members))
+}
+
+fn named_arg_to_json(alloc: Global, arg: &NamedArg) -> Result<Json, NoMemory>
+    ensures written { IfOk result (λ json. view json ≡ named_arg_data arg.now) }
+    ensures reads_back { IfOk result (λ json. NamedArgTree arg.now (view json)) }
+{
+    let value = value_to_json(alloc, &arg.value)?;
+    named_arg_members(alloc, arg.name.as_str(), value)
+}
+
+/// Writes named arguments as a JSON array.
+pub fn named_args_to_json(alloc: Global, args: &[NamedArg]) -> Result<Json, NoMemory>
+    ensures written { IfOk result (λ json. view json ≡ named_args_data args.now) }
+    ensures reads_back { IfOk result (λ json. ArrayTree NamedArgTree args.now (view json)) }
+{
+    let mut items = Vec::new(alloc);
+    for arg in args {
+        items.push(named_arg_to_json(alloc, arg)?)?;
+    }
+    Ok(Json::Array(items))
 }
