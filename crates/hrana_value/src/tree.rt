@@ -42,10 +42,10 @@ fn integer_of_json(json: &Json) -> Result<Value, ReadFail>
     requires { HasText (view json.now) (codes "type") (codes "integer") }
     ensures { Reads (λ v. ValueTree v (view json.now)) (ValueStands (view json.now)) result }
 {
-    let Some(text) = text_member(json, "value") else {
+    let Some(digits) = text_member(json, "value") else {
         return Err(ReadFail::Declined(Decline::Shape));
     };
-    match int64_of_text(text) {
+    match int64_of_text(digits) {
         Ok(number) => Ok(Value::Integer(number)),
         Err(kind) => Err(ReadFail::Declined(kind)),
     }
@@ -133,3 +133,95 @@ pub fn no_tree_is_two_values()
 pub fn no_value_is_declined()
     ensures { NoValueIsDeclined }
 {}
+
+#[cfg(test)]
+mod tests {
+    use super::*;
+    use crate::value_to_json;
+
+    fn read(alloc: Global, text: &str) -> Result<Value, ReadFail> {
+        match Json::from_str(alloc, text) {
+            Ok(json) => value_of_json(alloc, &json),
+            Err(_) => Err(ReadFail::NoMemory),
+        }
+    }
+
+    // What was read, in few words.
+    fn told(alloc: Global, text: &str) -> Result<String, ReadFail> {
+        let told = match read(alloc, text)? {
+            Value::Null => String::from_str(alloc, "null"),
+            Value::Integer(number) => number.to_string(alloc),
+            Value::Text(text) => String::from_str(alloc, text.as_str()),
+            Value::Blob(bytes) => format!(in alloc; "{:?}", bytes.as_slice()),
+        };
+        match told {
+            Ok(told) => Ok(told),
+            Err(_) => Err(ReadFail::NoMemory),
+        }
+    }
+
+    #[test]
+    fn values_are_read(rt: HostRuntime) {
+        let cases = [
+            (r#"{"type":"null"}"#, "null"),
+            (r#"{"type":"integer","value":"+5"}"#, "5"),
+            (r#"{"type":"integer","value":"-9223372036854775808","x":1}"#, "-9223372036854775808"),
+            (r#"{"type":"text","value":"caf\u00e9"}"#, "café"),
+            (r#"{"type":"blob","base64":"AQ"}"#, "[1]"),
+            (r#"{"type":"blob","base64":"AQ=="}"#, "[1]"),
+            (r#"{"type":"blob","base64":""}"#, "[]"),
+        ];
+        for (text, want) in cases {
+            match told(rt.alloc(), text) {
+                Ok(value) => assert_eq!(rt; value.as_str(), want, "at {text}"),
+                Err(_) => assert!(rt; false, "at {text}"),
+            }
+        }
+    }
+
+    #[test]
+    fn others_are_declined(rt: HostRuntime) {
+        let cases = [
+            (r#"{"type":"integer","value":""}"#, Decline::Shape),
+            (r#"{"type":"integer","value":"-"}"#, Decline::Shape),
+            (r#"{"type":"integer","value":"5 "}"#, Decline::Shape),
+            (r#"{"type":"integer","value":5}"#, Decline::Shape),
+            (r#"{"type":"integer","value":"99999999999999999999x"}"#, Decline::Shape),
+            (r#"{"type":"integer","value":"9223372036854775808"}"#, Decline::Range),
+            (r#"{"type":"integer","value":"-9223372036854775809"}"#, Decline::Range),
+            (r#"{"type":"text"}"#, Decline::Shape),
+            (r#"{"type":"blob","base64":"AR=="}"#, Decline::Shape),
+            (r#"{"type":"blob","base64":"AR"}"#, Decline::Shape),
+            (r#"{"type":"blob","base64":"AQ="}"#, Decline::Shape),
+            (r#"{"type":"float","value":"x"}"#, Decline::Float),
+            (r#"{"type":"Null"}"#, Decline::Shape),
+            ("[]", Decline::Shape),
+        ];
+        for (text, want) in cases {
+            match told(rt.alloc(), text) {
+                Ok(_) => assert!(rt; false, "at {text}"),
+                Err(fail) => assert_eq!(rt; fail, ReadFail::Declined(want), "at {text}"),
+            }
+        }
+    }
+
+    #[test]
+    fn the_first_kind_of_a_list_is_answered(rt: HostRuntime) {
+        let alloc = rt.alloc();
+        let text = r#"[{"type":"float"},{"type":"integer","value":"9223372036854775808"},{"type":"float"}]"#;
+        let json = Json::from_str(alloc, text).expect(&rt, "there is memory");
+        match optional_values_of_json(alloc, &json) {
+            Ok(_) => assert!(rt; false),
+            Err(fail) => assert_eq!(rt; fail, ReadFail::Declined(Decline::Range)),
+        }
+    }
+
+    #[test]
+    fn a_copied_blob_is_written_with_its_padding(rt: HostRuntime) {
+        let alloc = rt.alloc();
+        let blob = Value::Blob(Bytes::new(alloc, &[1]).expect(&rt, "there is memory"));
+        let json = value_to_json(alloc, &blob.copy(alloc).expect(&rt, "there is memory")).expect(&rt, "there is memory");
+        let text = json.to_string(alloc).expect(&rt, "there is memory");
+        assert_eq!(rt; text.as_str(), r#"{"base64":"AQ==","type":"blob"}"#);
+    }
+}

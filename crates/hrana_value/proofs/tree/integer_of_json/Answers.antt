@@ -14,9 +14,9 @@ returns-in-Ok c =
     let spelled = c.in-Ok.ensures.ok in
     let fits : FitsSigned w64 c.in-Ok.number = subst (FitsSigned w64) (sym spelled.1) spelled.0.1 in
     subst (λ z. Reads (λ v. ValueTree v (view c.args.json.now)) (ValueStands (view c.args.json.now)) (Ok (Integer z))) (sym (to_z-of_z w64 c.in-Ok.number fits))
-    (value_read (Integer c.in-Ok.number) (view c.args.json.now) (c.requires, (c.in-Some.text.now, sym c.in-Some.ensures, spelled)))
+    (value_read (Integer c.in-Ok.number) (view c.args.json.now) (c.requires, (c.in-Some.digits.now, sym c.in-Some.ensures, spelled)))
 
 pub returns-in-Err : goal.returns-in-Err
 returns-in-Err c =
-    integer_declined (view c.args.json.now) c.in-Some.text.now c.in-Err.kind c.requires (sym c.in-Some.ensures) c.in-Err.ensures.kinds (λ e. c.in-Err.ensures.shape.0 (ap Err e))
+    integer_declined (view c.args.json.now) c.in-Some.digits.now c.in-Err.kind c.requires (sym c.in-Some.ensures) c.in-Err.ensures.kinds (λ e. c.in-Err.ensures.shape.0 (ap Err e))
     (λ e. c.in-Err.ensures.range.0 (ap Err e))
