@@ -1,61 +1,35 @@
--- A tree is one of at most one statement.
-use Rattle.std.proofs.Common.{◌≡◌, ap, sym, subst, ◌∙◌, Option, None, Some, List, [], ◌∷◌, ℕ, Bool, codes, ◌<◌, ◌+◌, ◌++◌, length, get_or, take, arith, zero, suc, refl}
-use Rattle.std.specs.Prelude.{unwrap_or, option_and_then}
+-- A tree is one of at most one statement, and is read where the statement breaks no limit.
+use Rattle.std.proofs.Common.{◌≡◌, ◌⊎◌, inl, inr, ◌↔◌, ap, sym, subst, ◌∙◌, Option, None, Some, List, ℕ, ℤ, Bool, true, codes, ◌<◌, ◌+◌, ◌≤◌, length, arith, refl}
+use Rattle.std.specs.Prelude.{IsSomeAnd}
+use Rattle.std.proofs.lemmas.Bool.{cases_lt}
+use Rattle.serde_json.specs.Data.{Data, null, boolean, number, string, array, object}
 use Rattle.serde_json.specs.Find.{as_str}
-use Rattle.std.proofs.lemmas.List.{take_more}
-use Rattle.serde_json.specs.Data.{Data, null, boolean, number, string, array, object, Items, no_items, item}
-use Rattle.serde_json.specs.View.{view, items_view}
-use Rattle.serde_json.specs.declared.value.Value.{Value as Json}
 use Rattle.hrana_value.specs.declared.value.Value.{Value}
-use Rattle.hrana_value.specs.Members.{part_at, text_at, whole_at}
+use Rattle.hrana_value.specs.declared.failures.Decline.{Decline}
+use Rattle.hrana_value.specs.declared.failures.Decline.TheVariants.{Range}
+use Rattle.hrana_value.specs.Declines.{NoneStands, EitherStands, Only}
+use Rattle.hrana_value.specs.Members.{part_at, text_at, whole_of, HasText, TextTree, TextStands}
+use Rattle.hrana_value.specs.Tree.{ValueTree, ValueStands, OptionalValuesTree, OptionalValuesStand}
 use Rattle.hrana_value.proofs.TextLemmas.{one}
-use Rattle.hrana_value.proofs.TreeLemmas.{ValueTree-one, OptionalValuesTree-one}
-use Rattle.hrana_stmt.specs.Tree.{SqlTree, NamedArgTree, NamedArgsTree, OptionalNamedArgsTree, WantsRowsTree, StmtTree, NoTreeIsTwoStatements}
+use Rattle.hrana_value.proofs.TreeLemmas.{ValueTree-one, OptionalValuesTree-one, ValueTree-none}
+use Rattle.hrana_value.proofs.ItemsLemmas.{OptionalArrayTree-one}
+use Rattle.hrana_value.proofs.ArrayLemmas.{OptionalArrayTree-none}
+use Rattle.hrana_value.proofs.PartLemmas.{TextTree-none}
+use Rattle.hrana_value.proofs.DeclineLemmas.{NoneStands-parts, NoneStands-left, NoneStands-right, NoneStands-only}
+use Rattle.hrana_stmt.specs.Tree.{SqlTree, SqlStands, IsWithinSqlLimit, IsObject, ObjectStands, NamedArgTree, NamedArgStands, OptionalNamedArgsTree, OptionalNamedArgsStand, WantsRowsTree, WantsRowsStands, ArgumentsStand, StmtHeadStands, StmtStands, StmtTree, StmtFits, NoTreeIsTwoStatements, FittingStatementsAreRead, count_of}
 use Rattle.hrana_stmt.specs.declared.statements.SqlRef.{SqlRef}
 use Rattle.hrana_stmt.specs.declared.statements.SqlRef.TheVariants.{Text, Id}
 use Rattle.hrana_stmt.specs.declared.statements.NamedArg.{NamedArg}
 use Rattle.hrana_stmt.specs.declared.statements.Stmt.{Stmt}
-
--- ---- named arguments, item by item
-
-snoc : (js : List Json) (j : Json) (bs : List NamedArg) (a : NamedArg) → NamedArgsTree bs (items_view js) → NamedArgTree a (view j) → NamedArgsTree (bs ++ a ∷ []) (items_view (js ++ j ∷ []))
-snoc [] j [] a t u = (u, tt)
-snoc [] j (b ∷ bs) a t u = absurd t
-snoc (i ∷ js) j [] a t u = absurd t
-snoc (i ∷ js) j (b ∷ bs) a t u = (t.0, snoc js j bs a t.1 u)
-
-pub NamedArgsTree-more : (js : List Json) (i : ℕ) (j : Json) (bs : List NamedArg) (a : NamedArg) → i < length js → j ≡ get_or js i j → NamedArgsTree bs (items_view (take i js)) → NamedArgTree a (view j)
-    → NamedArgsTree (bs ++ a ∷ []) (items_view (take (i + 1) js))
-NamedArgsTree-more js i j bs a h e t u =
-    subst (λ l. NamedArgsTree (bs ++ a ∷ []) (items_view l)) (sym (take_more js i j h)) (subst (λ k. NamedArgsTree (bs ++ a ∷ []) (items_view (take i js ++ k ∷ []))) e (snoc (take i js) j bs a t u))
-
--- each item of an array that has a tree has one
-NamedArgsTree-at : (js : List Json) (i : ℕ) (d : Json) (bs : List NamedArg) → i < length js → NamedArgsTree bs (items_view js) → (a : NamedArg) × NamedArgTree a (view (get_or js i d))
-NamedArgsTree-at [] i d bs h t = absurd (omega arith)
-NamedArgsTree-at (j ∷ js) zero d [] h t = absurd t
-NamedArgsTree-at (j ∷ js) zero d (b ∷ bs) h t = (b, t.0)
-NamedArgsTree-at (j ∷ js) (suc i) d [] h t = absurd t
-NamedArgsTree-at (j ∷ js) (suc i) d (b ∷ bs) h t = NamedArgsTree-at js i d bs (omega arith) t.1
-
--- an array with an item that has no tree has none
-pub NamedArgsTree-refused : (js : List Json) (i : ℕ) (j : Json) (bs : List NamedArg) → i < length js → j ≡ get_or js i j → ((a : NamedArg) → NamedArgTree a (view j) → ⊥) → NamedArgsTree bs (items_view js) → ⊥
-NamedArgsTree-refused js i j bs h e none t = let p = NamedArgsTree-at js i j bs h t in none p.0 (subst (λ k. NamedArgTree p.0 (view k)) (sym e) p.1)
-
--- of an optional member that is an array
-pub OptionalNamedArgsTree-array : (bs : List NamedArg) (o : Option Data) (ds : Items) → o ≡ Some (array ds) → OptionalNamedArgsTree bs (unwrap_or o null) → NamedArgsTree bs ds
-OptionalNamedArgsTree-array bs o ds e t = subst (λ p. OptionalNamedArgsTree bs (unwrap_or p null)) e t
+use Rattle.hrana_stmt.proofs.SqlLemmas.{sql_text_none, sql_id_none, text_given, id_given}
+use Rattle.hrana_stmt.proofs.ArgumentLemmas.{OptionalArrayTree-length}
 
 -- ---- a tree is one of at most one statement
 
--- what is a text is not absent
-absent_text : (o : Option Data) (s : List ℕ) → unwrap_or o null ≡ null → option_and_then as_str o ≡ Some s → ⊥
-absent_text None s p q = cc
-absent_text (Some d) s p q = let h = rw p at q in cc
-
 SqlTree-one : (t : Data) (s r : SqlRef) → SqlTree s t → SqlTree r t → s ≡ r
 SqlTree-one t (Text s) (Text r) p q = ap Text (one _ _ _ p.0 q.0)
-SqlTree-one t (Text s) (Id z) p q = absurd (absent_text _ s q.1 p.0)
-SqlTree-one t (Id z) (Text s) p q = absurd (absent_text _ s p.1 q.0)
+SqlTree-one t (Text s) (Id z) p q = absurd (text_given (part_at (codes "sql") t) s p.0 q.1)
+SqlTree-one t (Id z) (Text s) p q = absurd (text_given (part_at (codes "sql") t) s q.0 p.1)
 SqlTree-one t (Id z) (Id y) p q = ap Id (one _ _ _ p.0.is q.0.is)
 
 abbrev named_arg : List ℕ → Value → NamedArg
@@ -64,22 +38,6 @@ named_arg n v = record { name = n; value = v }
 NamedArgTree-one : (t : Data) (a b : NamedArg) → NamedArgTree a t → NamedArgTree b t → a ≡ b
 NamedArgTree-one t a b p q =
     ap (λ n. named_arg n a.value) (one (text_at (codes "name") t) a.name b.name p.name q.name) ∙ ap (named_arg b.name) (ValueTree-one (part_at (codes "value") t) a.value b.value p.value q.value)
-
-NamedArgsTree-one : (ds : Items) (cs bs : List NamedArg) → NamedArgsTree cs ds → NamedArgsTree bs ds → cs ≡ bs
-NamedArgsTree-one no_items [] [] p q = refl
-NamedArgsTree-one no_items [] (b ∷ bs) p q = absurd q
-NamedArgsTree-one no_items (a ∷ more) bs p q = absurd p
-NamedArgsTree-one (item d ds) [] bs p q = absurd p
-NamedArgsTree-one (item d ds) (a ∷ more) [] p q = absurd q
-NamedArgsTree-one (item d ds) (a ∷ more) (b ∷ bs) p q = cc (NamedArgTree-one d a b p.0 q.0, NamedArgsTree-one ds more bs p.1 q.1)
-
-pub OptionalNamedArgsTree-one : (d : Data) (cs bs : List NamedArg) → OptionalNamedArgsTree cs d → OptionalNamedArgsTree bs d → cs ≡ bs
-OptionalNamedArgsTree-one null cs bs p q = p ∙ sym q
-OptionalNamedArgsTree-one (boolean b) cs bs p q = absurd p
-OptionalNamedArgsTree-one (number n) cs bs p q = absurd p
-OptionalNamedArgsTree-one (string s) cs bs p q = absurd p
-OptionalNamedArgsTree-one (array ds) cs bs p q = NamedArgsTree-one ds cs bs p q
-OptionalNamedArgsTree-one (object ms) cs bs p q = absurd p
 
 WantsRowsTree-one : (d : Data) (a b : Bool) → WantsRowsTree a d → WantsRowsTree b d → a ≡ b
 WantsRowsTree-one null a b p q = p ∙ sym q
@@ -96,7 +54,71 @@ pub StmtTree-one : NoTreeIsTwoStatements
 StmtTree-one t s r p q =
     let sql : s.sql ≡ r.sql = SqlTree-one t s.sql r.sql p.sql q.sql in
     let args : s.args ≡ r.args = OptionalValuesTree-one _ s.args r.args p.args q.args in
-    let named : s.named ≡ r.named = OptionalNamedArgsTree-one _ s.named r.named p.named q.named in
+    let named : s.named ≡ r.named = OptionalArrayTree-one NamedArgTree NamedArgTree-one _ s.named r.named p.named q.named in
     let want_rows : s.want_rows ≡ r.want_rows = WantsRowsTree-one _ s.want_rows r.want_rows p.want_rows q.want_rows in
     ap (λ a. stmt a s.args s.named s.want_rows) sql ∙ ap (λ b. stmt r.sql b s.named s.want_rows) args
     ∙ ap (λ c. stmt r.sql r.args c s.want_rows) named ∙ ap (stmt r.sql r.args r.named) want_rows
+
+-- ---- a statement that breaks no limit is read
+
+pub given_object : (name : List ℕ) (t : Data) → (part_at name t ≡ null → ⊥) → IsObject t
+given_object name null given = given refl
+given_object name (boolean b) given = given refl
+given_object name (number n) given = given refl
+given_object name (string s) given = given refl
+given_object name (array ds) given = given refl
+given_object name (object ms) given = tt
+
+object_of_sql : (s : SqlRef) (t : Data) → SqlTree s t → IsObject t
+object_of_sql (Text s) t p = given_object (codes "sql") t (text_given (part_at (codes "sql") t) s p.0)
+object_of_sql (Id z) t p = given_object (codes "sql_id") t (id_given (part_at (codes "sql_id") t) z p.0.is)
+
+sql_none : (s : SqlRef) (t : Data) → SqlTree s t → IsWithinSqlLimit s → NoneStands (SqlStands t)
+sql_none (Text s) t p fits = sql_text_none (part_at (codes "sql") t) (part_at (codes "sql_id") t) s p.0 p.1 fits
+sql_none (Id z) t p fits = sql_id_none (part_at (codes "sql") t) (part_at (codes "sql_id") t) z p.0 p.1
+
+NamedArgTree-none : (a : NamedArg) (t : Data) → NamedArgTree a t → NoneStands (NamedArgStands t)
+NamedArgTree-none a t p =
+    NoneStands-parts (TextStands (part_at (codes "name") t)) (ValueStands (part_at (codes "value") t)) (TextTree-none a.name (part_at (codes "name") t) p.name)
+    (ValueTree-none a.value (part_at (codes "value") t) p.value)
+
+head_none : (s : Stmt) (t : Data) → StmtTree s t → StmtFits s → NoneStands (StmtHeadStands t)
+head_none s t p fits =
+    NoneStands-parts (EitherStands (ObjectStands t) (SqlStands t)) (WantsRowsStands (part_at (codes "want_rows") t))
+    (NoneStands-parts (ObjectStands t) (SqlStands t) (λ k here. here.1 (object_of_sql s.sql t p.sql)) (sql_none s.sql t p.sql fits.sql)) (λ k here. here.1 s.want_rows p.want_rows)
+
+args_count : (s : Stmt) (t : Data) → StmtTree s t → length s.args + length s.named ≡ count_of (part_at (codes "args") t) + count_of (part_at (codes "named_args") t)
+args_count s t p =
+    let args = OptionalArrayTree-length ValueTree s.args (part_at (codes "args") t) p.args in
+    let named = OptionalArrayTree-length NamedArgTree s.named (part_at (codes "named_args") t) p.named in
+    omega (arith, args, named)
+
+arguments_none : (s : Stmt) (t : Data) → StmtTree s t → StmtFits s → NoneStands (ArgumentsStand (part_at (codes "args") t) (part_at (codes "named_args") t))
+arguments_none s t p fits =
+    let args = part_at (codes "args") t in let named = part_at (codes "named_args") t in
+    NoneStands-parts (EitherStands (OptionalValuesStand args) (OptionalNamedArgsStand named)) (Only Range (256 < count_of args + count_of named))
+    (NoneStands-parts (OptionalValuesStand args) (OptionalNamedArgsStand named) (OptionalArrayTree-none ValueTree ValueStands ValueTree-none s.args args p.args)
+    (OptionalArrayTree-none NamedArgTree NamedArgStands NamedArgTree-none s.named named p.named))
+    (λ k here. let count = args_count s t p in let few = fits.args in let many = here.1 in absurd (omega arith))
+
+stmt_none : (s : Stmt) (t : Data) → StmtTree s t → StmtFits s → NoneStands (StmtStands t)
+stmt_none s t p fits =
+    NoneStands-parts (StmtHeadStands t) (ArgumentsStand (part_at (codes "args") t) (part_at (codes "named_args") t)) (head_none s t p fits) (arguments_none s t p fits)
+
+-- ---- a statement of a tree in which nothing stands breaks no limit
+
+sql_fits : (s : SqlRef) (t : Data) → SqlTree s t → NoneStands (SqlStands t) → IsWithinSqlLimit s
+sql_fits (Text s) t p none = elim (cases_lt 65536 (length s)) [
+  | inl long ↦ absurd (none Range (inl (subst (λ o. IsSomeAnd o (λ r. 65536 < length r)) (sym p.0) long)))
+  | inr fits ↦ fits
+]
+sql_fits (Id z) t p none = tt
+
+args_fit : (s : Stmt) (t : Data) → StmtTree s t → NoneStands (StmtStands t) → length s.args + length s.named ≤ 256
+args_fit s t p none = elim (cases_lt 256 (length s.args + length s.named)) [
+  | inl many ↦ absurd (none Range (inr (inr (refl, let count = args_count s t p in omega arith))))
+  | inr few ↦ few
+]
+
+pub StmtTree-fits : FittingStatementsAreRead
+StmtTree-fits s t p = (stmt_none s t p, λ none. record { sql = sql_fits s.sql t p.sql (λ k here. none k (inl (inl (inr here)))); args = args_fit s t p none })

@@ -34,6 +34,13 @@ impl Cols {
         }
     }
 
+    /// The columns themselves, with no copy.
+    pub fn from_vec(items: Vec<Col>) -> Cols
+        ensures { result ≡ items.items }
+    {
+        Cols { items }
+    }
+
     /// Adds a column at the end. A refused column is dropped.
     pub fn push(&mut self, col: Col) -> Result<(), NoMemory>
         ensures ok { OnOk result (self.new ≡ self.old ++ col ∷ []) }
@@ -74,6 +81,13 @@ impl Rows {
         Rows {
             items: Vec::new(alloc),
         }
+    }
+
+    /// The rows themselves, with no copy.
+    pub fn from_vec(items: Vec<Values>) -> Rows
+        ensures { result ≡ items.items }
+    {
+        Rows { items }
     }
 
     /// Adds a row at the end. A refused row is dropped.

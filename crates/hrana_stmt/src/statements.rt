@@ -42,6 +42,13 @@ impl NamedArgs {
         }
     }
 
+    /// The arguments themselves, with no copy.
+    pub fn from_vec(items: Vec<NamedArg>) -> NamedArgs
+        ensures { result ≡ items.items }
+    {
+        NamedArgs { items }
+    }
+
     /// Adds an argument at the end. A refused argument is dropped.
     pub fn push(&mut self, arg: NamedArg) -> Result<(), NoMemory>
         ensures ok { OnOk result (self.new ≡ self.old ++ arg ∷ []) }

@@ -1,4 +1,11 @@
+pub mod ArrayLemmas
 pub mod Base64Lemmas
+pub mod DeclineLemmas
+pub mod IntegerLemmas
+pub mod ItemsLemmas
+pub mod PartLemmas
+pub mod NoFloats
 pub mod TextLemmas
 pub mod TreeLemmas
-pub mod NoFloats
+pub mod WrittenItems
+pub mod WrittenLemmas

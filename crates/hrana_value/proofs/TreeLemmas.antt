@@ -1,40 +1,22 @@
--- Lists of values and arrays, item by item.
-use Rattle.std.proofs.Common.{◌≡◌, ℕ, zero, suc, ◌+◌, ◌<◌, List, [], ◌∷◌, ◌++◌, length, get_or, take, refl, arith, ap, subst, sym, ◌∙◌, Option, None, Some, codes}
-use Rattle.std.specs.Prelude.{unwrap_or}
-use Rattle.std.proofs.lemmas.List.{take_more}
-use Rattle.serde_json.specs.View.{view, items_view}
-use Rattle.serde_json.specs.declared.value.Value.{Value as Json}
-use Rattle.hrana_value.proofs.TextLemmas.{one, apart}
-use Rattle.serde_json.specs.Data.{Data, null, boolean, number, string, array, object, Items, no_items, item}
+-- A tree is one of at most one value, and what is declined is none.
+use Rattle.std.proofs.Common.{◌≡◌, ◌⊎◌, inl, inr, ℕ, ◌<◌, List, codes, refl, ap, subst, sym, ◌∙◌, Option, None, Some, arith}
+use Rattle.std.specs.Prelude.{Ok, Err, ⊤, Result}
 use Rattle.std.specs.Str.Parse.{signed_digits_value}
-use Rattle.hrana_value.specs.Tree.{ValueTree, ValuesTree, OptionalValuesTree, NoTreeIsTwoValues}
-use Rattle.hrana_value.specs.Base64.{SpellsBytes}
+use Rattle.serde_json.specs.Data.{Data}
+use Rattle.hrana_value.proofs.TextLemmas.{one, apart}
 use Rattle.hrana_value.proofs.Base64Lemmas.{SpellsBytes-one}
+use Rattle.hrana_value.proofs.ItemsLemmas.{OptionalArrayTree-one}
+use Rattle.hrana_value.proofs.DeclineLemmas.{Reads-ok, Reads-declined}
+use Rattle.hrana_value.specs.Base64.{SpellsBytes}
+use Rattle.hrana_value.specs.Members.{HasText, text_at}
+use Rattle.hrana_value.specs.Declines.{rank_of, IsFirst, NoneStands, Reads}
+use Rattle.hrana_value.specs.Tree.{ValueTree, OptionalValuesTree, NoTreeIsTwoValues, NoValueIsDeclined, ValueShaped, null_shaped, integer_shaped, float_shaped, text_shaped, blob_shaped, IntegerTooLarge, ValueStands, IsIntegerText, FitsI64, SpellsI64}
+use Rattle.hrana_value.specs.declared.failures.Decline.{Decline}
+use Rattle.hrana_value.specs.declared.failures.Decline.TheVariants.{Unknown, Describe, Shape, BothSql, BadStep, Range, Float}
+use Rattle.hrana_value.specs.declared.failures.ReadFail.{ReadFail}
+use Rattle.hrana_value.specs.declared.failures.ReadFail.TheVariants.{Declined, NoMemory}
 use Rattle.hrana_value.specs.declared.value.Value.{Value}
 use Rattle.hrana_value.specs.declared.value.Value.TheVariants.{Null, Integer, Text, Blob}
-
-snoc : (js : List Json) (j : Json) (vs : List Value) (v : Value) → ValuesTree vs (items_view js) → ValueTree v (view j) → ValuesTree (vs ++ v ∷ []) (items_view (js ++ j ∷ []))
-snoc [] j [] v t u = (u, tt)
-snoc [] j (w ∷ vs) v t u = absurd t
-snoc (i ∷ js) j [] v t u = absurd t
-snoc (i ∷ js) j (w ∷ vs) v t u = (t.0, snoc js j vs v t.1 u)
-
-pub ValuesTree-more : (js : List Json) (i : ℕ) (j : Json) (vs : List Value) (v : Value) → i < length js → j ≡ get_or js i j → ValuesTree vs (items_view (take i js)) → ValueTree v (view j)
-    → ValuesTree (vs ++ v ∷ []) (items_view (take (i + 1) js))
-ValuesTree-more js i j vs v h e t u =
-    subst (λ l. ValuesTree (vs ++ v ∷ []) (items_view l)) (sym (take_more js i j h)) (subst (λ k. ValuesTree (vs ++ v ∷ []) (items_view (take i js ++ k ∷ []))) e (snoc (take i js) j vs v t u))
-
--- each item of an array that has a tree has one
-ValuesTree-at : (js : List Json) (i : ℕ) (d : Json) (vs : List Value) → i < length js → ValuesTree vs (items_view js) → (v : Value) × ValueTree v (view (get_or js i d))
-ValuesTree-at [] i d vs h t = absurd (omega arith)
-ValuesTree-at (j ∷ js) zero d [] h t = absurd t
-ValuesTree-at (j ∷ js) zero d (v ∷ vs) h t = (v, t.0)
-ValuesTree-at (j ∷ js) (suc i) d [] h t = absurd t
-ValuesTree-at (j ∷ js) (suc i) d (v ∷ vs) h t = ValuesTree-at js i d vs (omega arith) t.1
-
--- an array with an item that has no tree has none
-pub ValuesTree-refused : (js : List Json) (i : ℕ) (j : Json) (vs : List Value) → i < length js → j ≡ get_or js i j → ((v : Value) → ValueTree v (view j) → ⊥) → ValuesTree vs (items_view js) → ⊥
-ValuesTree-refused js i j vs h e none t = let p = ValuesTree-at js i j vs h t in none p.0 (subst (λ k. ValueTree p.0 (view k)) (sym e) p.1)
 
 -- ---- a tree is one of at most one value
 
@@ -60,22 +42,133 @@ ValueTree-one t (Blob b) (Blob a) p q =
     let same : p.1.0 ≡ q.1.0 = one _ _ _ p.1.1 q.1.1 in
     ap Blob (SpellsBytes-one _ _ _ (subst (λ s. SpellsBytes s b) same p.1.2) q.1.2)
 
-ValuesTree-one : (ds : Items) (vs ws : List Value) → ValuesTree vs ds → ValuesTree ws ds → vs ≡ ws
-ValuesTree-one no_items [] [] p q = refl
-ValuesTree-one no_items [] (w ∷ ws) p q = absurd q
-ValuesTree-one no_items (v ∷ vs) ws p q = absurd p
-ValuesTree-one (item d ds) [] ws p q = absurd p
-ValuesTree-one (item d ds) (v ∷ vs) [] p q = absurd q
-ValuesTree-one (item d ds) (v ∷ vs) (w ∷ ws) p q = cc (ValueTree-one d v w p.0 q.0, ValuesTree-one ds vs ws p.1 q.1)
-
 pub OptionalValuesTree-one : (d : Data) (vs ws : List Value) → OptionalValuesTree vs d → OptionalValuesTree ws d → vs ≡ ws
-OptionalValuesTree-one null vs ws p q = p ∙ sym q
-OptionalValuesTree-one (boolean b) vs ws p q = absurd p
-OptionalValuesTree-one (number n) vs ws p q = absurd p
-OptionalValuesTree-one (string s) vs ws p q = absurd p
-OptionalValuesTree-one (array ds) vs ws p q = ValuesTree-one ds vs ws p q
-OptionalValuesTree-one (object ms) vs ws p q = absurd p
+OptionalValuesTree-one d vs ws p q = OptionalArrayTree-one ValueTree ValueTree-one d vs ws p q
 
--- of an optional member that is an array
-pub OptionalValuesTree-array : (vs : List Value) (o : Option Data) (ds : Items) → o ≡ Some (array ds) → OptionalValuesTree vs (unwrap_or o null) → ValuesTree vs ds
-OptionalValuesTree-array vs o ds e t = subst (λ p. OptionalValuesTree vs (unwrap_or p null)) e t
+-- ---- nothing is declined in the form of a value
+
+shaped : (v : Value) (t : Data) → ValueTree v t → ValueShaped t
+shaped Null t p = null_shaped p
+shaped (Integer z) t p = integer_shaped p.1.0 p.0 p.1.1 p.1.2.0.0
+shaped (Text s) t p = text_shaped s p.0 p.1
+shaped (Blob b) t p = blob_shaped p.1.0 b p.0 p.1.1 p.1.2
+
+no_float : (v : Value) (t : Data) → ValueTree v t → HasText t (codes "type") (codes "float") → ⊥
+no_float Null t p q = apart _ _ _ refl p q
+no_float (Integer z) t p q = apart _ _ _ refl p.0 q
+no_float (Text s) t p q = apart _ _ _ refl p.0 q
+no_float (Blob b) t p q = apart _ _ _ refl p.0 q
+
+not_too_large : (v : Value) (t : Data) → ValueTree v t → IntegerTooLarge t → ⊥
+not_too_large Null t p q = apart _ _ _ refl p q.is_integer
+not_too_large (Integer z) t p q = q.too_large (subst FitsI64 (one _ _ _ p.1.1 q.has_text) p.1.2.0.1)
+not_too_large (Text s) t p q = apart _ _ _ refl p.0 q.is_integer
+not_too_large (Blob b) t p q = apart _ _ _ refl p.0 q.is_integer
+
+pub ValueTree-none : NoValueIsDeclined
+ValueTree-none v t p Unknown here = here
+ValueTree-none v t p Describe here = here
+ValueTree-none v t p Shape here = here (shaped v t p)
+ValueTree-none v t p BothSql here = here
+ValueTree-none v t p BadStep here = here
+ValueTree-none v t p Range here = not_too_large v t p here
+ValueTree-none v t p Float here = no_float v t p here
+
+-- ---- the first kind that stands
+
+shape_before : (t : Data) (k : Decline) → rank_of k < rank_of Shape → ValueStands t k → ⊥
+shape_before t Unknown less here = here
+shape_before t Describe less here = here
+shape_before t Shape less here = absurd (omega arith)
+shape_before t BothSql less here = absurd (omega arith)
+shape_before t BadStep less here = absurd (omega arith)
+shape_before t Range less here = absurd (omega arith)
+shape_before t Float less here = absurd (omega arith)
+
+pub value_shape : (t : Data) → (ValueShaped t → ⊥) → IsFirst (ValueStands t) Shape
+value_shape t none = record { stands_itself = none; none_before = shape_before t }
+
+range_before : (t : Data) → ValueShaped t → (k : Decline) → rank_of k < rank_of Range → ValueStands t k → ⊥
+range_before t is Unknown less here = here
+range_before t is Describe less here = here
+range_before t is Shape less here = here is
+range_before t is BothSql less here = here
+range_before t is BadStep less here = here
+range_before t is Range less here = absurd (omega arith)
+range_before t is Float less here = absurd (omega arith)
+
+pub value_range : (t : Data) → IntegerTooLarge t → IsFirst (ValueStands t) Range
+value_range t large = record { stands_itself = large; none_before = range_before t (integer_shaped large.text large.is_integer large.has_text large.is_integer_text) }
+
+float_before : (t : Data) → HasText t (codes "type") (codes "float") → (k : Decline) → rank_of k < rank_of Float → ValueStands t k → ⊥
+float_before t is Unknown less here = here
+float_before t is Describe less here = here
+float_before t is Shape less here = here (float_shaped is)
+float_before t is BothSql less here = here
+float_before t is BadStep less here = here
+float_before t is Range less here = apart _ _ _ refl is here.is_integer
+float_before t is Float less here = absurd (omega arith)
+
+pub value_float : (t : Data) → HasText t (codes "type") (codes "float") → IsFirst (ValueStands t) Float
+value_float t is = record { stands_itself = is; none_before = float_before t is }
+
+-- ---- what the readers of each kind answer
+
+pub value_read : (v : Value) (t : Data) → ValueTree v t → Reads (λ w. ValueTree w t) (ValueStands t) (Ok v)
+value_read v t p = Reads-ok v p (ValueTree-none v t p)
+
+pub value_misshaped : (t : Data) → (ValueShaped t → ⊥) → Reads (λ w. ValueTree w t) (ValueStands t) (Err (Declined Shape))
+value_misshaped t none = Reads-declined Shape (value_shape t none)
+
+pub value_too_large : (t : Data) (s : List ℕ) → HasText t (codes "type") (codes "integer") → HasText t (codes "value") s → IsIntegerText s → (FitsI64 s → ⊥)
+    → Reads (λ w. ValueTree w t) (ValueStands t) (Err (Declined Range))
+value_too_large t s is has digits large =
+    Reads-declined Range (value_range t (record { text = s; is_integer = is; has_text = has; is_integer_text = digits; too_large = large }))
+
+pub value_is_float : (t : Data) → HasText t (codes "type") (codes "float") → Reads (λ w. ValueTree w t) (ValueStands t) (Err (Declined Float))
+value_is_float t is = Reads-declined Float (value_float t is)
+
+-- a tree whose type is no text has no shape, nor has one whose type is another
+pub no_kind : (t : Data) → text_at (codes "type") t ≡ None → ValueShaped t → ⊥
+no_kind t none (null_shaped is) = cc (sym none ∙ is)
+no_kind t none (integer_shaped s is has digits) = cc (sym none ∙ is)
+no_kind t none (float_shaped is) = cc (sym none ∙ is)
+no_kind t none (text_shaped s is has) = cc (sym none ∙ is)
+no_kind t none (blob_shaped s b is has spells) = cc (sym none ∙ is)
+
+pub integer_misshaped : (t : Data) → HasText t (codes "type") (codes "integer") → ((s : List ℕ) → HasText t (codes "value") s → IsIntegerText s → ⊥) → ValueShaped t → ⊥
+integer_misshaped t kind none (null_shaped is) = apart _ _ _ refl kind is
+integer_misshaped t kind none (integer_shaped s is has digits) = none s has digits
+integer_misshaped t kind none (float_shaped is) = apart _ _ _ refl kind is
+integer_misshaped t kind none (text_shaped s is has) = apart _ _ _ refl kind is
+integer_misshaped t kind none (blob_shaped s b is has spells) = apart _ _ _ refl kind is
+
+pub text_misshaped : (t : Data) → HasText t (codes "type") (codes "text") → text_at (codes "value") t ≡ None → ValueShaped t → ⊥
+text_misshaped t kind none (null_shaped is) = apart _ _ _ refl kind is
+text_misshaped t kind none (integer_shaped s is has digits) = apart _ _ _ refl kind is
+text_misshaped t kind none (float_shaped is) = apart _ _ _ refl kind is
+text_misshaped t kind none (text_shaped s is has) = cc (sym none ∙ has)
+text_misshaped t kind none (blob_shaped s b is has spells) = apart _ _ _ refl kind is
+
+pub blob_misshaped : (t : Data) → HasText t (codes "type") (codes "blob") → ((s b : List ℕ) → HasText t (codes "base64") s → SpellsBytes s b → ⊥) → ValueShaped t → ⊥
+blob_misshaped t kind none (null_shaped is) = apart _ _ _ refl kind is
+blob_misshaped t kind none (integer_shaped s is has digits) = apart _ _ _ refl kind is
+blob_misshaped t kind none (float_shaped is) = apart _ _ _ refl kind is
+blob_misshaped t kind none (text_shaped s is has) = apart _ _ _ refl kind is
+blob_misshaped t kind none (blob_shaped s b is has spells) = none s b has spells
+
+pub other_kind : (t : Data) (kind : List ℕ) → HasText t (codes "type") kind → (kind ≡ codes "null" → ⊥) → (kind ≡ codes "integer" → ⊥) → (kind ≡ codes "float" → ⊥) → (kind ≡ codes "text" → ⊥)
+    → (kind ≡ codes "blob" → ⊥) → ValueShaped t → ⊥
+other_kind t kind has a b c d e (null_shaped is) = a (one _ _ _ has is)
+other_kind t kind has a b c d e (integer_shaped s is h digits) = b (one _ _ _ has is)
+other_kind t kind has a b c d e (float_shaped is) = c (one _ _ _ has is)
+other_kind t kind has a b c d e (text_shaped s is h) = d (one _ _ _ has is)
+other_kind t kind has a b c d e (blob_shaped s x is h spells) = e (one _ _ _ has is)
+
+pub integer_declined : (t : Data) (s : List ℕ) (k : Decline) → HasText t (codes "type") (codes "integer") → HasText t (codes "value") s → (k ≡ Shape) ⊎ (k ≡ Range) → (k ≡ Shape → IsIntegerText s → ⊥)
+    → (k ≡ Range → IsIntegerText s × (FitsI64 s → ⊥)) → Reads (λ w. ValueTree w t) (ValueStands t) (Err (Declined k))
+integer_declined t s k is has (inl shape) p q =
+    subst (λ e. Reads (λ w. ValueTree w t) (ValueStands t) (Err (Declined e))) (sym shape)
+    (value_misshaped t (integer_misshaped t is (λ r h digits. p shape (subst IsIntegerText (one _ _ _ h has) digits))))
+integer_declined t s k is has (inr range) p q =
+    subst (λ e. Reads (λ w. ValueTree w t) (ValueStands t) (Err (Declined e))) (sym range) (value_too_large t s is has (q range).0 (q range).1)

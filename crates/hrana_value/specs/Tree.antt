@@ -1,16 +1,44 @@
--- Which JSON trees a value may be written as.
-use Rattle.std.specs.Prelude.{◌≡◌, ℕ, ℤ, List, [], ◌∷◌, Ok, codes, ⊤}
+-- Which JSON trees a value may be written as, and which declines stand in a tree that should be a value.
+use Rattle.std.specs.Prelude.{◌≡◌, ℕ, ℤ, List, Ok, codes, ⊤, FitsSigned}
 use Rattle.std.specs.Int.{w64}
-use Rattle.std.specs.Str.Parse.{ParsesSigned}
-use Rattle.serde_json.specs.Data.{Data, null, boolean, number, string, array, object, Items, no_items, item}
-use Rattle.hrana_value.specs.Members.{HasText}
+use Rattle.std.specs.Str.Parse.{ParsesSigned, IsNumeral, without_leading_sign, signed_digits_value}
+use Rattle.serde_json.specs.Data.{Data, Items}
+use Rattle.hrana_value.specs.Members.{HasText, TextTree}
 use Rattle.hrana_value.specs.Base64.{SpellsBytes}
+use Rattle.hrana_value.specs.Trees.{ItemsTree, ItemsStand, OptionalArrayTree, OptionalArrayStands}
+use Rattle.hrana_value.specs.declared.failures.Decline.{Decline}
+use Rattle.hrana_value.specs.declared.failures.Decline.TheVariants.{Unknown, Describe, Shape, BothSql, BadStep, Range, Float}
 use Rattle.hrana_value.specs.declared.value.Value.{Value}
 use Rattle.hrana_value.specs.declared.value.Value.TheVariants.{Null, Integer, Text, Blob}
+
+-- ---- integer texts
+
+-- the text is an optional sign and decimal digits
+abbrev pub IsIntegerText : List ℕ → Type 0
+IsIntegerText s = IsNumeral 10 (without_leading_sign s)
+
+-- the number that such a text writes fits into 64 bits
+abbrev pub FitsI64 : List ℕ → Type 0
+FitsI64 s = FitsSigned w64 (signed_digits_value 10 s)
 
 -- the text is a spelling of the number, as `i64::from_str` reads it
 abbrev pub SpellsI64 : List ℕ → ℤ → Type 0
 SpellsI64 s z = ParsesSigned {E = ⊤} w64 10 s (Ok z)
+
+-- a string that spells an integer of 64 bits
+abbrev pub Int64TextTree : ℤ → Data → Type 0
+Int64TextTree z t = (s : List ℕ) × TextTree s t × SpellsI64 s z
+
+abbrev pub Int64TextStands : Data → Decline → Type 0
+Int64TextStands t Shape = (s : List ℕ) → TextTree s t → IsIntegerText s → ⊥
+Int64TextStands t Range = (s : List ℕ) × TextTree s t × IsIntegerText s × (FitsI64 s → ⊥)
+Int64TextStands t Unknown = ⊥
+Int64TextStands t Describe = ⊥
+Int64TextStands t BothSql = ⊥
+Int64TextStands t BadStep = ⊥
+Int64TextStands t Float = ⊥
+
+-- ---- values
 
 abbrev pub ValueTree : Value → Data → Type 0
 ValueTree Null t = HasText t (codes "type") (codes "null")
@@ -18,22 +46,52 @@ ValueTree (Integer z) t = HasText t (codes "type") (codes "integer") × ((s : Li
 ValueTree (Text s) t = HasText t (codes "type") (codes "text") × HasText t (codes "value") s
 ValueTree (Blob b) t = HasText t (codes "type") (codes "blob") × ((s : List ℕ) × HasText t (codes "base64") s × SpellsBytes s b)
 
--- the same of the items of an array, one by one
-abbrev pub ValuesTree : List Value → Items → Type 0
-ValuesTree [] no_items = Unit {0}
-ValuesTree [] (item d ds) = ⊥
-ValuesTree (v ∷ vs) no_items = ⊥
-ValuesTree (v ∷ vs) (item d ds) = ValueTree v d × ValuesTree vs ds
+-- the members that the tree's `type` asks for are there, and have their forms
+pub data ValueShaped (t : Data) : Type 0 where
+  null_shaped : HasText t (codes "type") (codes "null") → ValueShaped t
+  integer_shaped : (s : List ℕ) → HasText t (codes "type") (codes "integer") → HasText t (codes "value") s → IsIntegerText s → ValueShaped t
+  float_shaped : HasText t (codes "type") (codes "float") → ValueShaped t
+  text_shaped : (s : List ℕ) → HasText t (codes "type") (codes "text") → HasText t (codes "value") s → ValueShaped t
+  blob_shaped : (s b : List ℕ) → HasText t (codes "type") (codes "blob") → HasText t (codes "base64") s → SpellsBytes s b → ValueShaped t
 
--- the values of an optional array: none where it is missing or null
+-- an integer text whose number doesn't fit
+pub record IntegerTooLarge (t : Data) : Type 0 where
+  pub text : List ℕ
+  pub is_integer : HasText t (codes "type") (codes "integer")
+  pub has_text : HasText t (codes "value") text
+  pub is_integer_text : IsIntegerText text
+  pub too_large : FitsI64 text → ⊥
+
+abbrev pub ValueStands : Data → Decline → Type 0
+ValueStands t Shape = ValueShaped t → ⊥
+ValueStands t Range = IntegerTooLarge t
+ValueStands t Float = HasText t (codes "type") (codes "float")
+ValueStands t Unknown = ⊥
+ValueStands t Describe = ⊥
+ValueStands t BothSql = ⊥
+ValueStands t BadStep = ⊥
+
+-- ---- lists of values
+
+abbrev pub ValuesTree : List Value → Items → Type 0
+ValuesTree vs ds = ItemsTree ValueTree vs ds
+
+abbrev pub ValuesStand : Items → Decline → Type 0
+ValuesStand ds = ItemsStand ValueStands ds
+
+-- none where the part is missing or null
 abbrev pub OptionalValuesTree : List Value → Data → Type 0
-OptionalValuesTree vs null = vs ≡ []
-OptionalValuesTree vs (array ds) = ValuesTree vs ds
-OptionalValuesTree vs (boolean b) = ⊥
-OptionalValuesTree vs (number n) = ⊥
-OptionalValuesTree vs (string s) = ⊥
-OptionalValuesTree vs (object ms) = ⊥
+OptionalValuesTree vs t = OptionalArrayTree ValueTree vs t
+
+abbrev pub OptionalValuesStand : Data → Decline → Type 0
+OptionalValuesStand t = OptionalArrayStands ValueStands t
+
+-- ---- laws
 
 -- a tree is the form of at most one value
 abbrev pub NoTreeIsTwoValues : Type 0
 NoTreeIsTwoValues = (t : Data) (v w : Value) → ValueTree v t → ValueTree w t → v ≡ w
+
+-- nothing is declined in the form of a value
+abbrev pub NoValueIsDeclined : Type 0
+NoValueIsDeclined = (v : Value) (t : Data) → ValueTree v t → (k : Decline) → ValueStands t k → ⊥

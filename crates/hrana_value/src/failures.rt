@@ -1,4 +1,7 @@
 // Why a call could not do its work.
+ghost use Rattle.std.specs.Prelude.{◌≡◌};
+ghost use Rattle.hrana_value.specs.Declines.{rank_of, earlier_of};
+
 use std::alloc::{AllocError, AllocFailed};
 
 /// Want of memory.
@@ -36,11 +39,46 @@ pub enum Decline {
     Float,
 }
 
+impl Decline {
+    fn rank(self) -> u8
+        ensures { result ≡ rank_of self }
+    {
+        match self {
+            Decline::Unknown => 0,
+            Decline::Describe => 1,
+            Decline::Shape => 2,
+            Decline::BothSql => 3,
+            Decline::BadStep => 4,
+            Decline::Range => 5,
+            Decline::Float => 6,
+        }
+    }
+}
+
 /// Why a JSON tree could not be read.
 #[derive(Clone, Copy, Debug, PartialEq, Eq)]
 pub enum ReadFail {
     Declined(Decline),
     NoMemory,
+}
+
+impl ReadFail {
+    /// The failure of a message of which two parts failed: want of memory, or else the earlier kind of decline.
+    pub fn earlier(self, other: ReadFail) -> ReadFail
+        ensures { result ≡ earlier_of self other }
+    {
+        match (self, other) {
+            (ReadFail::Declined(first), ReadFail::Declined(second)) => {
+                if second.rank() < first.rank() {
+                    other
+                } else {
+                    self
+                }
+            }
+            (ReadFail::NoMemory, _) => ReadFail::NoMemory,
+            (_, ReadFail::NoMemory) => ReadFail::NoMemory,
+        }
+    }
 }
 
 impl From<NoMemory> for ReadFail {
@@ -51,5 +89,16 @@ impl From<NoMemory> for ReadFail {
 
     fn from(_: NoMemory) -> Self {
         ReadFail::NoMemory
+    }
+}
+
+impl From<Decline> for ReadFail {
+    ghost use Rattle.std.specs.Prelude.{◌≡◌};
+    ghost use Rattle.hrana_value.specs.declared.failures.ReadFail.TheVariants.{Declined};
+
+    ghost from_gives = { λ kind e. e ≡ Declined kind };
+
+    fn from(kind: Decline) -> Self {
+        ReadFail::Declined(kind)
     }
 }

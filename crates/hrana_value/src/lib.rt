@@ -5,17 +5,30 @@
 
 mod bytes;
 mod failures;
+mod integers;
 mod members;
+mod names;
+mod numbers;
+mod readings;
 mod text;
+mod texts;
 mod tree;
 mod value;
 mod written;
 
 pub use bytes::Bytes;
 pub use failures::{Decline, NoMemory, ReadFail};
-pub use members::{int32_member, is_absent, text_member};
+pub use integers::{int64_of_text, int64_text_of_json, optional_int64_text_of_json};
+pub use members::{int32_member, is_absent, member, text_member};
+pub use names::{index_of, name};
+pub use numbers::{int32, int32_of_json, uint32, uint32_of_json, uint64, uint64_of_json};
+pub use readings::{both, with_item};
 pub use text::Txt;
-pub use tree::{no_tree_is_two_values, value_of_json, values_member, values_of_json};
+pub use texts::{optional_text_of_json, text_of_json};
+pub use tree::{
+    no_tree_is_two_values, no_value_is_declined, optional_values_of_json, value_of_json,
+    values_of_json,
+};
 pub use value::{Value, Values};
 pub use written::{value_to_json, values_to_json};
 

@@ -1,15 +1,15 @@
 // Values from JSON trees.
-ghost use Rattle.std.specs.Prelude.{◌≡◌, List, ℕ, IfOk, IfErr};
+ghost use Rattle.std.specs.Prelude.{◌≡◌, List, ℕ, IfOk, IfErr, codes};
 ghost use Rattle.serde_json.specs.View.{view, items_view};
-ghost use Rattle.hrana_value.specs.Tree.{ValueTree, ValuesTree, OptionalValuesTree, NoTreeIsTwoValues};
-ghost use Rattle.hrana_value.specs.Base64.{SpellsBytes};
 ghost use Rattle.base64.specs.GeneralPurpose.{encode_of, IsBytes};
 ghost use Rattle.base64.specs.Engines.{standard_no_pad};
-ghost use Rattle.hrana_value.specs.Members.{part_at};
-ghost use Rattle.hrana_value.specs.declared.value.Value.{Value};
+ghost use Rattle.hrana_value.specs.Base64.{SpellsBytes};
+ghost use Rattle.hrana_value.specs.Declines.{Reads};
+ghost use Rattle.hrana_value.specs.Members.{HasText};
+ghost use Rattle.hrana_value.specs.Tree.{ValueTree, ValueStands, ValuesTree, ValuesStand, OptionalValuesTree, OptionalValuesStand, NoTreeIsTwoValues, NoValueIsDeclined};
 ghost use Rattle.hrana_value.specs.declared.failures.Decline.{Decline};
 
-use crate::{Bytes, Decline, ReadFail, Txt, Value, Values, text_member};
+use crate::{Bytes, Decline, ReadFail, Txt, Value, Values, int64_of_text, text_member, with_item};
 use base64::DecodeAllocError;
 use base64::engine::general_purpose::{STANDARD, STANDARD_NO_PAD};
 use serde_json::Value as Json;
@@ -17,7 +17,7 @@ use std::alloc::Global;
 
 fn bytes_without_padding(alloc: Global, text: &str) -> Result<Bytes, ReadFail>
     ensures ok { IfOk result (λ b. IsBytes b × (text.now ≡ encode_of standard_no_pad b)) }
-    ensures declined { IfErr result (λ e. (d : Decline) → e ≡ ReadFail.Declined d → (b : List ℕ) → IsBytes b → text.now ≡ encode_of standard_no_pad b → ⊥) }
+    ensures declined { IfErr result (λ e. (d : Decline) → e ≡ ReadFail.Declined d → (d ≡ Decline.Shape) × ((b : List ℕ) → IsBytes b → text.now ≡ encode_of standard_no_pad b → ⊥)) }
 {
     match STANDARD_NO_PAD.decode(alloc, text.as_bytes()) {
         Ok(bytes) => Ok(Bytes::from_vec(bytes)),
@@ -29,7 +29,7 @@ fn bytes_without_padding(alloc: Global, text: &str) -> Result<Bytes, ReadFail>
 // The bytes of a base64 text, with or without its padding.
 fn bytes_of_base64(alloc: Global, text: &str) -> Result<Bytes, ReadFail>
     ensures ok { IfOk result (SpellsBytes text.now) }
-    ensures declined { IfErr result (λ e. (d : Decline) → e ≡ ReadFail.Declined d → (b : List ℕ) → SpellsBytes text.now b → ⊥) }
+    ensures declined { IfErr result (λ e. (d : Decline) → e ≡ ReadFail.Declined d → (d ≡ Decline.Shape) × ((b : List ℕ) → SpellsBytes text.now b → ⊥)) }
 {
     match STANDARD.decode(alloc, text.as_bytes()) {
         Ok(bytes) => Ok(Bytes::from_vec(bytes)),
@@ -38,42 +38,62 @@ fn bytes_of_base64(alloc: Global, text: &str) -> Result<Bytes, ReadFail>
     }
 }
 
+fn integer_of_json(json: &Json) -> Result<Value, ReadFail>
+    requires { HasText (view json.now) (codes "type") (codes "integer") }
+    ensures { Reads (λ v. ValueTree v (view json.now)) (ValueStands (view json.now)) result }
+{
+    let Some(digits) = text_member(json, "value") else {
+        return Err(ReadFail::Declined(Decline::Shape));
+    };
+    match int64_of_text(digits) {
+        Ok(number) => Ok(Value::Integer(number)),
+        Err(kind) => Err(ReadFail::Declined(kind)),
+    }
+}
+
+fn text_value_of_json(alloc: Global, json: &Json) -> Result<Value, ReadFail>
+    requires { HasText (view json.now) (codes "type") (codes "text") }
+    ensures { Reads (λ v. ValueTree v (view json.now)) (ValueStands (view json.now)) result }
+{
+    let Some(text) = text_member(json, "value") else {
+        return Err(ReadFail::Declined(Decline::Shape));
+    };
+    match Txt::new(alloc, text) {
+        Ok(text) => Ok(Value::Text(text)),
+        Err(_) => Err(ReadFail::NoMemory),
+    }
+}
+
+fn blob_of_json(alloc: Global, json: &Json) -> Result<Value, ReadFail>
+    requires { HasText (view json.now) (codes "type") (codes "blob") }
+    ensures { Reads (λ v. ValueTree v (view json.now)) (ValueStands (view json.now)) result }
+{
+    let Some(text) = text_member(json, "base64") else {
+        return Err(ReadFail::Declined(Decline::Shape));
+    };
+    match bytes_of_base64(alloc, text) {
+        Ok(bytes) => Ok(Value::Blob(bytes)),
+        Err(fail) => Err(fail),
+    }
+}
+
 /// Reads a value. A blob's text is base64 (RFC 4648, section 4), with or without its padding.
 pub fn value_of_json(alloc: Global, json: &Json) -> Result<Value, ReadFail>
-    ensures ok { IfOk result (λ v. ValueTree v (view json.now)) }
-    ensures declined { IfErr result (λ e. (d : Decline) → e ≡ ReadFail.Declined d → (v : Value) → ValueTree v (view json.now) → ⊥) }
+    ensures { Reads (λ v. ValueTree v (view json.now)) (ValueStands (view json.now)) result }
 {
     let Some(kind) = text_member(json, "type") else {
         return Err(ReadFail::Declined(Decline::Shape));
     };
     if kind == "null" {
-        return Ok(Value::Null);
-    }
-    if kind == "float" {
-        return Err(ReadFail::Declined(Decline::Float));
-    }
-    if kind == "blob" {
-        let Some(text) = text_member(json, "base64") else {
-            return Err(ReadFail::Declined(Decline::Shape));
-        };
-        return match bytes_of_base64(alloc, text) {
-            Ok(bytes) => Ok(Value::Blob(bytes)),
-            Err(fail) => Err(fail),
-        };
-    }
-    let Some(text) = text_member(json, "value") else {
-        return Err(ReadFail::Declined(Decline::Shape));
-    };
-    if kind == "integer" {
-        match text.parse::<i64>() {
-            Ok(number) => Ok(Value::Integer(number)),
-            Err(_) => Err(ReadFail::Declined(Decline::Shape)),
-        }
+        Ok(Value::Null)
+    } else if kind == "integer" {
+        integer_of_json(json)
+    } else if kind == "float" {
+        Err(ReadFail::Declined(Decline::Float))
     } else if kind == "text" {
-        match Txt::new(alloc, text) {
-            Ok(text) => Ok(Value::Text(text)),
-            Err(_) => Err(ReadFail::NoMemory),
-        }
+        text_value_of_json(alloc, json)
+    } else if kind == "blob" {
+        blob_of_json(alloc, json)
     } else {
         Err(ReadFail::Declined(Decline::Shape))
     }
@@ -81,36 +101,26 @@ pub fn value_of_json(alloc: Global, json: &Json) -> Result<Value, ReadFail>
 
 /// Reads each item of an array.
 pub fn values_of_json(alloc: Global, items: &[Json]) -> Result<Values, ReadFail>
-    ensures ok { IfOk result (λ vs. ValuesTree vs (items_view items.now)) }
-    ensures declined { IfErr result (λ e. (d : Decline) → e ≡ ReadFail.Declined d → (vs : List Value) → ValuesTree vs (items_view items.now) → ⊥) }
+    ensures { Reads (λ vs. ValuesTree vs (items_view items.now)) (ValuesStand (items_view items.now)) result }
 {
-    let mut values = Values::new(alloc);
+    let mut values = Ok(Vec::new(alloc));
     for item in items {
-        let value = match value_of_json(alloc, item) {
-            Ok(value) => value,
-            Err(fail) => return Err(fail),
-        };
-        match values.push(value) {
-            Ok(()) => {}
-            Err(_) => return Err(ReadFail::NoMemory),
-        }
+        values = with_item(values, value_of_json(alloc, item));
     }
-    Ok(values)
+    match values {
+        Ok(values) => Ok(Values::from_vec(values)),
+        Err(fail) => Err(fail),
+    }
 }
 
-/// The values of an optional array: none where the member is missing or null.
-pub fn values_member(alloc: Global, json: &Json, name: &str) -> Result<Values, ReadFail>
-    ensures ok { IfOk result (λ vs. OptionalValuesTree vs (part_at name.now (view json.now))) }
-    ensures declined { IfErr result (λ e. (d : Decline) → e ≡ ReadFail.Declined d → (vs : List Value) → OptionalValuesTree vs (part_at name.now (view json.now)) → ⊥) }
+/// The values of an optional array: none where it is null.
+pub fn optional_values_of_json(alloc: Global, json: &Json) -> Result<Values, ReadFail>
+    ensures { Reads (λ vs. OptionalValuesTree vs (view json.now)) (OptionalValuesStand (view json.now)) result }
 {
-    match json.get(name) {
-        None => Ok(Values::new(alloc)),
-        Some(Json::Null) => Ok(Values::new(alloc)),
-        Some(Json::Array(items)) => match values_of_json(alloc, items.as_slice()) {
-            Ok(values) => Ok(values),
-            Err(fail) => Err(fail),
-        },
-        Some(_) => Err(ReadFail::Declined(Decline::Shape)),
+    match json {
+        Json::Null => Ok(Values::new(alloc)),
+        Json::Array(items) => values_of_json(alloc, items.as_slice()),
+        _ => Err(ReadFail::Declined(Decline::Shape)),
     }
 }
 
@@ -118,3 +128,100 @@ pub fn values_member(alloc: Global, json: &Json, name: &str) -> Result<Values, R
 pub fn no_tree_is_two_values()
     ensures { NoTreeIsTwoValues }
 {}
+
+/// What is the form of a value is read.
+pub fn no_value_is_declined()
+    ensures { NoValueIsDeclined }
+{}
+
+#[cfg(test)]
+mod tests {
+    use super::*;
+    use crate::value_to_json;
+
+    fn read(alloc: Global, text: &str) -> Result<Value, ReadFail> {
+        match Json::from_str(alloc, text) {
+            Ok(json) => value_of_json(alloc, &json),
+            Err(_) => Err(ReadFail::NoMemory),
+        }
+    }
+
+    // What was read, in few words.
+    fn told(alloc: Global, text: &str) -> Result<String, ReadFail> {
+        let told = match read(alloc, text)? {
+            Value::Null => String::from_str(alloc, "null"),
+            Value::Integer(number) => number.to_string(alloc),
+            Value::Text(text) => String::from_str(alloc, text.as_str()),
+            Value::Blob(bytes) => format!(in alloc; "{:?}", bytes.as_slice()),
+        };
+        match told {
+            Ok(told) => Ok(told),
+            Err(_) => Err(ReadFail::NoMemory),
+        }
+    }
+
+    #[test]
+    fn values_are_read(rt: HostRuntime) {
+        let cases = [
+            (r#"{"type":"null"}"#, "null"),
+            (r#"{"type":"integer","value":"+5"}"#, "5"),
+            (r#"{"type":"integer","value":"-9223372036854775808","x":1}"#, "-9223372036854775808"),
+            (r#"{"type":"text","value":"caf\u00e9"}"#, "café"),
+            (r#"{"type":"blob","base64":"AQ"}"#, "[1]"),
+            (r#"{"type":"blob","base64":"AQ=="}"#, "[1]"),
+            (r#"{"type":"blob","base64":""}"#, "[]"),
+        ];
+        for (text, want) in cases {
+            match told(rt.alloc(), text) {
+                Ok(value) => assert_eq!(rt; value.as_str(), want, "at {text}"),
+                Err(_) => assert!(rt; false, "at {text}"),
+            }
+        }
+    }
+
+    #[test]
+    fn others_are_declined(rt: HostRuntime) {
+        let cases = [
+            (r#"{"type":"integer","value":""}"#, Decline::Shape),
+            (r#"{"type":"integer","value":"-"}"#, Decline::Shape),
+            (r#"{"type":"integer","value":"5 "}"#, Decline::Shape),
+            (r#"{"type":"integer","value":5}"#, Decline::Shape),
+            (r#"{"type":"integer","value":"99999999999999999999x"}"#, Decline::Shape),
+            (r#"{"type":"integer","value":"9223372036854775808"}"#, Decline::Range),
+            (r#"{"type":"integer","value":"-9223372036854775809"}"#, Decline::Range),
+            (r#"{"type":"text"}"#, Decline::Shape),
+            (r#"{"type":"blob","base64":"AR=="}"#, Decline::Shape),
+            (r#"{"type":"blob","base64":"AR"}"#, Decline::Shape),
+            (r#"{"type":"blob","base64":"AQ="}"#, Decline::Shape),
+            (r#"{"type":"float","value":"x"}"#, Decline::Float),
+            (r#"{"type":"Null"}"#, Decline::Shape),
+            ("[]", Decline::Shape),
+        ];
+        for (text, want) in cases {
+            match told(rt.alloc(), text) {
+                Ok(_) => assert!(rt; false, "at {text}"),
+                Err(fail) => assert_eq!(rt; fail, ReadFail::Declined(want), "at {text}"),
+            }
+        }
+    }
+
+    #[test]
+    fn the_first_kind_of_a_list_is_answered(rt: HostRuntime) {
+        let alloc = rt.alloc();
+        let text = r#"[{"type":"float"},{"type":"integer","value":"9223372036854775808"},{"type":"float"}]"#;
+        let json = Json::from_str(alloc, text).expect(&rt, "there is memory");
+        match optional_values_of_json(alloc, &json) {
+            Ok(_) => assert!(rt; false),
+            Err(fail) => assert_eq!(rt; fail, ReadFail::Declined(Decline::Range)),
+        }
+    }
+
+    #[test]
+    fn a_copied_blob_is_written_with_its_padding(rt: HostRuntime) {
+        let alloc = rt.alloc();
+        let blob = Value::Blob(Bytes::new(alloc, &[1]).expect(&rt, "there is memory"));
+        let json = value_to_json(alloc, &blob.copy(alloc).expect(&rt, "there is memory")).expect(&rt, "there is memory");
+        let text = json.to_string(alloc).expect(&rt, "there is memory");
+        assert_eq!(rt; text.as_str(), r#"{"base64":"AQ==","type":"blob"}"#);
+    }
+}

@@ -50,6 +50,13 @@ impl Values {
         }
     }
 
+    /// The values themselves, with no copy.
+    pub fn from_vec(items: Vec<Value>) -> Values
+        ensures { result ≡ items.items }
+    {
+        Values { items }
+    }
+
     /// Adds a value at the end. A refused value is dropped.
     pub fn push(&mut self, value: Value) -> Result<(), NoMemory>
         ensures ok { OnOk result (self.new ≡ self.old ++ value ∷ []) }

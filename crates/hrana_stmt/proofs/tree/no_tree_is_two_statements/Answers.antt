@@ -1,5 +1,0 @@
-use Rattle.hrana_stmt.proofs.StmtLemmas.{StmtTree-one}
-use Rattle.hrana_stmt.proofs.tree.no_tree_is_two_statements.Goals as goal
-
-pub returns : goal.returns
-returns c = StmtTree-one

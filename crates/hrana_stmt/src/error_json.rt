@@ -1,0 +1,75 @@
+// Errors from JSON trees and back.
+ghost use Rattle.serde_json.specs.View.{view};
+ghost use Rattle.hrana_value.specs.Declines.{Reads, EitherStands};
+ghost use Rattle.hrana_value.specs.Members.{TextStands};
+ghost use Rattle.hrana_value.specs.Trees.{OptionalStands};
+ghost use Rattle.hrana_stmt.specs.Tree.{WireErrorTree, WireErrorStands, NoTreeIsTwoErrors, ErrorsAreRead};
+ghost use Rattle.hrana_stmt.specs.Parts.{ErrorPartsTree};
+ghost use Rattle.std.specs.Prelude.{◌≡◌, IfOk};
+ghost use Rattle.hrana_stmt.specs.Written.{optional_text, error_data};
+
+use crate::WireError;
+use hrana_value::{NoMemory, ReadFail, Txt, both, member, optional_text_of_json, text_of_json};
+use serde_json::{Map, Value as Json, json, put};
+use std::alloc::Global;
+
+fn error_of_parts(alloc: Global, message: &Json, code: &Json) -> Result<WireError, ReadFail>
+    ensures { Reads (λ e. ErrorPartsTree e (view message.now) (view code.now)) (EitherStands (TextStands (view message.now)) (OptionalStands TextStands (view code.now))) result }
+{
+    let message = text_of_json(alloc, message);
+    match both(message, optional_text_of_json(alloc, code)) {
+        Ok((message, code)) => Ok(WireError { message, code }),
+        Err(fail) => Err(fail),
+    }
+}
+
+/// Reads an error: `message`, and an optional `code`.
+pub fn error_of_json(alloc: Global, json: &Json) -> Result<WireError, ReadFail>
+    ensures { Reads (λ e. WireErrorTree e (view json.now)) (WireErrorStands (view json.now)) result }
+{
+    let null = Json::Null;
+    error_of_parts(
+        alloc,
+        member(json, "message", &null),
+        member(json, "code", &null),
+    )
+}
+
+/// Writes a string, and null for none.
+pub fn optional_text_to_json(alloc: Global, text: &Option<Txt>) -> Result<Json, NoMemory>
+    ensures { IfOk result (λ json. view json ≡ optional_text text.now) }
+{
+    match text {
+        Some(text) => Ok(json!(in alloc; text.as_str())?),
+        None => Ok(Json::Null),
+    }
+}
+
+fn error_members(alloc: Global, error: &WireError) -> Result<Json, NoMemory>
+    ensures { IfOk result (λ json. view json ≡ error_data error.now) }
+{
+    let code = optional_text_to_json(alloc, &error.code)?;
+    let message = json!(in alloc; error.message.as_str())?;
+    let mut members = Map::new(alloc);
+    put(&mut members, alloc, "code", code)?;
+    put(&mut members, alloc, "message", message)?;
+    Ok(Json::Object(members))
+}
+
+/// Writes an error with all its members, in byte order. A code that is missing is null.
+pub fn error_to_json(alloc: Global, error: &WireError) -> Result<Json, NoMemory>
+    ensures written { IfOk result (λ json. view json ≡ error_data error.now) }
+    ensures reads_back { IfOk result (λ json. WireErrorTree error.now (view json)) }
+{
+    error_members(alloc, error)
+}
+
+/// A JSON tree is the form of at most one error.
+pub fn no_tree_is_two_errors()
+    ensures { NoTreeIsTwoErrors }
+{}
+
+/// Nothing is declined in the form of an error.
+pub fn errors_are_read()
+    ensures { ErrorsAreRead }
+{}

@@ -1,0 +1,243 @@
+// Results from JSON trees and back.
+ghost use Rattle.serde_json.specs.View.{view, items_view};
+ghost use Rattle.hrana_value.specs.Declines.{Reads, EitherStands};
+ghost use Rattle.hrana_value.specs.Members.{TextStands};
+ghost use Rattle.hrana_value.specs.Trees.{ItemsTree, ItemsStand, ArrayTree, ArrayStands, OptionalTree, OptionalStands};
+ghost use Rattle.hrana_stmt.specs.Tree.{ObjectStands, ColTree, ColStands, RowTree, RowStands, StmtResultTree, StmtResultStands, NoTreeIsTwoResults, ResultsAreRead};
+ghost use Rattle.hrana_stmt.specs.Parts.{ColPartsTree, ResultPartsTree, ResultPartsStand};
+ghost use Rattle.std.specs.Prelude.{◌≡◌, ◌<◌, ◌^◌, IfOk, Some};
+ghost use Rattle.serde_json.specs.Data.{string};
+ghost use Rattle.std.specs.Fmt.{signed_decimal};
+ghost use Rattle.hrana_value.specs.Tree.{Int64TextTree};
+ghost use Rattle.hrana_stmt.specs.Written.{col_data, cols_data, row_data, rows_data, rowid_data, result_object, result_data};
+
+use crate::error_json::optional_text_to_json;
+use crate::{Col, Cols, Rows, StmtResult, object_of_json};
+use hrana_value::{
+    Decline, NoMemory, ReadFail, Values, both, member, optional_int64_text_of_json,
+    optional_text_of_json, uint64_of_json, values_of_json, values_to_json, with_item,
+};
+use serde_json::{Map, Value as Json, put};
+use std::alloc::Global;
+
+fn col_of_parts(alloc: Global, json: &Json, name: &Json) -> Result<Col, ReadFail>
+    ensures { Reads (λ c. ColPartsTree c (view json.now) (view name.now)) (EitherStands (ObjectStands (view json.now)) (OptionalStands TextStands (view name.now))) result }
+{
+    match both(object_of_json(json), optional_text_of_json(alloc, name)) {
+        Ok((_, name)) => Ok(Col { name }),
+        Err(fail) => Err(fail),
+    }
+}
+
+fn col_of_json(alloc: Global, json: &Json) -> Result<Col, ReadFail>
+    ensures { Reads (λ c. ColTree c (view json.now)) (ColStands (view json.now)) result }
+{
+    let null = Json::Null;
+    col_of_parts(alloc, json, member(json, "name", &null))
+}
+
+fn cols_of_items(alloc: Global, items: &[Json]) -> Result<Cols, ReadFail>
+    ensures { Reads (λ cols. ItemsTree ColTree cols (items_view items.now)) (ItemsStand ColStands (items_view items.now)) result }
+{
+    let mut cols = Ok(Vec::new(alloc));
+    for item in items {
+        cols = with_item(cols, col_of_json(alloc, item));
+    }
+    match cols {
+        Ok(cols) => Ok(Cols::from_vec(cols)),
+        Err(fail) => Err(fail),
+    }
+}
+
+/// Reads an array of columns.
+pub fn cols_of_json(alloc: Global, json: &Json) -> Result<Cols, ReadFail>
+    ensures { Reads (λ cols. ArrayTree ColTree cols (view json.now)) (ArrayStands ColStands (view json.now)) result }
+{
+    match json {
+        Json::Array(items) => cols_of_items(alloc, items.as_slice()),
+        _ => Err(ReadFail::Declined(Decline::Shape)),
+    }
+}
+
+/// Reads a row, which is an array of values.
+pub fn row_of_json(alloc: Global, json: &Json) -> Result<Values, ReadFail>
+    ensures { Reads (λ row. RowTree row (view json.now)) (RowStands (view json.now)) result }
+{
+    match json {
+        Json::Array(items) => values_of_json(alloc, items.as_slice()),
+        _ => Err(ReadFail::Declined(Decline::Shape)),
+    }
+}
+
+fn rows_of_items(alloc: Global, items: &[Json]) -> Result<Rows, ReadFail>
+    ensures { Reads (λ rows. ItemsTree RowTree rows (items_view items.now)) (ItemsStand RowStands (items_view items.now)) result }
+{
+    let mut rows = Ok(Vec::new(alloc));
+    for item in items {
+        rows = with_item(rows, row_of_json(alloc, item));
+    }
+    match rows {
+        Ok(rows) => Ok(Rows::from_vec(rows)),
+        Err(fail) => Err(fail),
+    }
+}
+
+fn rows_of_json(alloc: Global, json: &Json) -> Result<Rows, ReadFail>
+    ensures { Reads (λ rows. ArrayTree RowTree rows (view json.now)) (ArrayStands RowStands (view json.now)) result }
+{
+    match json {
+        Json::Array(items) => rows_of_items(alloc, items.as_slice()),
+        _ => Err(ReadFail::Declined(Decline::Shape)),
+    }
+}
+
+fn result_of_parts(
+    alloc: Global,
+    cols: &Json,
+    rows: &Json,
+    affected: &Json,
+    rowid: &Json,
+) -> Result<StmtResult, ReadFail>
+    ensures { Reads (λ r. ResultPartsTree r (view cols.now) (view rows.now) (view affected.now) (view rowid.now)) (ResultPartsStand (view cols.now) (view rows.now) (view affected.now) (view rowid.now)) result }
+{
+    let numbers = both(uint64_of_json(affected), optional_int64_text_of_json(rowid));
+    let lists = both(cols_of_json(alloc, cols), rows_of_json(alloc, rows));
+    match both(lists, numbers) {
+        Ok((lists, numbers)) => Ok(StmtResult {
+            cols: lists.0,
+            rows: lists.1,
+            affected: numbers.0,
+            last_rowid: numbers.1,
+        }),
+        Err(fail) => Err(fail),
+    }
+}
+
+/// Reads a result: `cols`, `rows`, `affected_row_count`, and an optional `last_insert_rowid`.
+pub fn result_of_json(alloc: Global, json: &Json) -> Result<StmtResult, ReadFail>
+    ensures { Reads (λ r. StmtResultTree r (view json.now)) (StmtResultStands (view json.now)) result }
+{
+    let null = Json::Null;
+    result_of_parts(
+        alloc,
+        member(json, "cols", &null),
+        member(json, "rows", &null),
+        member(json, "affected_row_count", &null),
+        member(json, "last_insert_rowid", &null),
+    )
+}
+
+fn col_members(alloc: Global, col: &Col) -> Result<Json, NoMemory>
+    ensures { IfOk result (λ json. view json ≡ col_data col.now) }
+{
+    let name = optional_text_to_json(alloc, &col.name)?;
+    let mut members = Map::new(alloc);
+    put(&mut members, alloc, "name", name)?;
+    Ok(Json::Object(members))
+}
+
+fn col_to_json(alloc: Global, col: &Col) -> Result<Json, NoMemory>
+    ensures written { IfOk result (λ json. view json ≡ col_data col.now) }
+    ensures reads_back { IfOk result (λ json. ColTree col.now (view json)) }
+{
+    col_members(alloc, col)
+}
+
+/// Writes columns as a JSON array.
+pub fn cols_to_json(alloc: Global, cols: &[Col]) -> Result<Json, NoMemory>
+    ensures written { IfOk result (λ json. view json ≡ cols_data cols.now) }
+    ensures reads_back { IfOk result (λ json. ArrayTree ColTree cols.now (view json)) }
+{
+    let mut items = Vec::new(alloc);
+    for col in cols {
+        items.push(col_to_json(alloc, col)?)?;
+    }
+    Ok(Json::Array(items))
+}
+
+/// Writes a row as a JSON array.
+pub fn row_to_json(alloc: Global, row: &Values) -> Result<Json, NoMemory>
+    ensures written { IfOk result (λ json. view json ≡ row_data row.now) }
+    ensures reads_back { IfOk result (λ json. RowTree row.now (view json)) }
+{
+    values_to_json(alloc, row.as_slice())
+}
+
+fn rows_to_json(alloc: Global, rows: &[Values]) -> Result<Json, NoMemory>
+    ensures written { IfOk result (λ json. view json ≡ rows_data rows.now) }
+    ensures reads_back { IfOk result (λ json. ArrayTree RowTree rows.now (view json)) }
+{
+    let mut items = Vec::new(alloc);
+    for row in rows {
+        items.push(row_to_json(alloc, row)?)?;
+    }
+    Ok(Json::Array(items))
+}
+
+fn integer_text(alloc: Global, number: i64) -> Result<Json, NoMemory>
+    ensures { IfOk result (λ json. view json ≡ string (signed_decimal number)) }
+{
+    Ok(Json::String(number.to_string(alloc)?))
+}
+
+fn int64_to_json(alloc: Global, number: i64) -> Result<Json, NoMemory>
+    ensures written { IfOk result (λ json. view json ≡ rowid_data (Some number)) }
+    ensures reads_back { IfOk result (λ json. OptionalTree Int64TextTree (Some number) (view json)) }
+{
+    integer_text(alloc, number)
+}
+
+/// Writes an integer as a string, and null for none.
+pub fn optional_int64_to_json(alloc: Global, number: Option<i64>) -> Result<Json, NoMemory>
+    ensures written { IfOk result (λ json. view json ≡ rowid_data number) }
+    ensures reads_back { IfOk result (λ json. OptionalTree Int64TextTree number (view json)) }
+{
+    match number {
+        Some(number) => int64_to_json(alloc, number),
+        None => Ok(Json::Null),
+    }
+}
+
+fn result_members(
+    alloc: Global,
+    affected: u64,
+    cols: Json,
+    rowid: Json,
+    rows: Json,
+) -> Result<Json, NoMemory>
+    ensures written { IfOk result (λ json. view json ≡ result_object affected (view cols) (view rowid) (view rows)) }
+    ensures fits { affected < 2 ^ 64 }
+{
+    let mut members = Map::new(alloc);
+    put(
+        &mut members,
+        alloc,
+        "affected_row_count",
+        Json::from(affected),
+    )?;
+    put(&mut members, alloc, "cols", cols)?;
+    put(&mut members, alloc, "last_insert_rowid", rowid)?;
+    put(&mut members, alloc, "rows", rows)?;
+    Ok(Json::Object(members))
+}
+
+/// Writes a result with all its members, in byte order. What is missing is null.
+pub fn result_to_json(alloc: Global, given: &StmtResult) -> Result<Json, NoMemory>
+    ensures written { IfOk result (λ json. view json ≡ result_data given.now) }
+    ensures reads_back { IfOk result (λ json. StmtResultTree given.now (view json)) }
+{
+    let cols = cols_to_json(alloc, given.cols.as_slice())?;
+    let rows = rows_to_json(alloc, given.rows.as_slice())?;
+    let rowid = optional_int64_to_json(alloc, given.last_rowid)?;
+    result_members(alloc, given.affected, cols, rowid, rows)
+}
+
+/// A JSON tree is the form of at most one result.
+pub fn no_tree_is_two_results()
+    ensures { NoTreeIsTwoResults }
+{}
+
+/// Nothing is declined in the form of a result.
+pub fn results_are_read()
+    ensures { ResultsAreRead }
+{}

@@ -1,0 +1,293 @@
+// Statements from JSON trees and back.
+ghost use Rattle.std.specs.Prelude.{◌≡◌, IfOk, OnOk, Bool};
+ghost use Rattle.serde_json.specs.View.{view, members_view};
+ghost use Rattle.hrana_stmt.specs.Written.{stmt_object, stmt_data};
+ghost use Rattle.hrana_stmt.specs.Puts.{put_unless, put_sql, put_parts, SqlIdFits};
+ghost use Rattle.hrana_value.specs.Declines.{Reads, EitherStands};
+ghost use Rattle.hrana_stmt.specs.Tree.{IsObject, ObjectStands, SqlTree, SqlStands, WantsRowsTree, WantsRowsStands, StmtTree, StmtStands, NoTreeIsTwoStatements, FittingStatementsAreRead};
+ghost use Rattle.hrana_stmt.specs.Parts.{HeadTree, HeadStands, StmtPartsTree, StmtPartsStand};
+
+use crate::arguments::{arguments_of_json, named_args_to_json};
+use crate::{SqlRef, Stmt, sql_of_json};
+use hrana_value::{Decline, NoMemory, ReadFail, both, member, values_to_json};
+use serde_json::{Map, Value as Json, json, put};
+use std::alloc::Global;
+
+fn want_rows_of_json(json: &Json) -> Result<bool, ReadFail>
+    ensures { Reads (λ wanted. WantsRowsTree wanted (view json.now)) (WantsRowsStands (view json.now)) result }
+{
+    if json.is_null() {
+        return Ok(true);
+    }
+    match json.as_bool() {
+        Some(wanted) => Ok(wanted),
+        None => Err(ReadFail::Declined(Decline::Shape)),
+    }
+}
+
+/// Whether the tree is an object.
+pub fn object_of_json(json: &Json) -> Result<(), ReadFail>
+    ensures { Reads (λ _. IsObject (view json.now)) (ObjectStands (view json.now)) result }
+{
+    match json {
+        Json::Object(_) => Ok(()),
+        _ => Err(ReadFail::Declined(Decline::Shape)),
+    }
+}
+
+fn sql_of_object(alloc: Global, json: &Json) -> Result<SqlRef, ReadFail>
+    ensures { Reads (λ s. SqlTree s (view json.now)) (EitherStands (ObjectStands (view json.now)) (SqlStands (view json.now))) result }
+{
+    match both(object_of_json(json), sql_of_json(alloc, json)) {
+        Ok((_, sql)) => Ok(sql),
+        Err(fail) => Err(fail),
+    }
+}
+
+fn head_of_json(alloc: Global, json: &Json, want_rows: &Json) -> Result<(SqlRef, bool), ReadFail>
+    ensures { Reads (λ head. HeadTree head.0 head.1 (view json.now) (view want_rows.now)) (HeadStands (view json.now) (view want_rows.now)) result }
+{
+    both(sql_of_object(alloc, json), want_rows_of_json(want_rows))
+}
+
+fn stmt_of_parts(
+    alloc: Global,
+    json: &Json,
+    args: &Json,
+    named: &Json,
+    want_rows: &Json,
+) -> Result<Stmt, ReadFail>
+    ensures { Reads (λ s. StmtPartsTree s (view json.now) (view args.now) (view named.now) (view want_rows.now)) (StmtPartsStand (view json.now) (view args.now) (view named.now) (view want_rows.now)) result }
+{
+    let head = head_of_json(alloc, json, want_rows);
+    match both(head, arguments_of_json(alloc, args, named)) {
+        Ok((head, arguments)) => Ok(Stmt {
+            sql: head.0,
+            args: arguments.0,
+            named: arguments.1,
+            want_rows: head.1,
+        }),
+        Err(fail) => Err(fail),
+    }
+}
+
+/// Reads a statement: `sql` or `sql_id`, and optional `args`, `named_args` and `want_rows`. Its SQL text has at
+/// most 65,536 bytes, and it has at most 256 arguments, both kinds together.
+pub fn stmt_of_json(alloc: Global, json: &Json) -> Result<Stmt, ReadFail>
+    ensures { Reads (λ s. StmtTree s (view json.now)) (StmtStands (view json.now)) result }
+{
+    let null = Json::Null;
+    stmt_of_parts(
+        alloc,
+        json,
+        member(json, "args", &null),
+        member(json, "named_args", &null),
+        member(json, "want_rows", &null),
+    )
+}
+
+fn put_unless(
+    members: &mut Map<String, Json>,
+    alloc: Global,
+    absent: bool,
+    name: &str,
+    json: Json,
+) -> Result<(), NoMemory>
+    ensures { OnOk result (members_view members.new.entries ≡ put_unless absent name.now (view json) (members_view members.old.entries)) }
+{
+    if !absent {
+        put(members, alloc, name, json)?;
+    }
+    Ok(())
+}
+
+/// Puts `sql` or `sql_id` into an object.
+pub fn put_sql(members: &mut Map<String, Json>, alloc: Global, sql: &SqlRef) -> Result<(), NoMemory>
+    ensures fits { SqlIdFits sql.now }
+    ensures put { OnOk result (members_view members.new.entries ≡ put_sql sql.now (members_view members.old.entries)) }
+{
+    match sql {
+        SqlRef::Text(text) => {
+            let text = json!(in alloc; text.as_str())?;
+            put(members, alloc, "sql", text)?;
+        }
+        SqlRef::Id(number) => put(members, alloc, "sql_id", Json::from(*number))?,
+    }
+    Ok(())
+}
+
+fn put_stmt(
+    members: &mut Map<String, Json>,
+    alloc: Global,
+    stmt: &Stmt,
+    args: Json,
+    named: Json,
+) -> Result<(), NoMemory>
+    ensures fits { OnOk result (SqlIdFits stmt.now.sql) }
+    ensures put { OnOk result (members_view members.new.entries ≡ put_parts stmt.now (view args) (view named) (members_view members.old.entries)) }
+{
+    let no_args = stmt.args.as_slice().is_empty();
+    let no_named = stmt.named.as_slice().is_empty();
+    put_unless(members, alloc, no_args, "args", args)?;
+    put_unless(members, alloc, no_named, "named_args", named)?;
+    put_sql(members, alloc, &stmt.sql)?;
+    put_unless(
+        members,
+        alloc,
+        stmt.want_rows,
+        "want_rows",
+        Json::Bool(false),
+    )
+}
+
+fn stmt_members(alloc: Global, stmt: &Stmt, args: Json, named: Json) -> Result<Json, NoMemory>
+    ensures fits { OnOk result (SqlIdFits stmt.now.sql) }
+    ensures written { IfOk result (λ json. view json ≡ stmt_object stmt.now (view args) (view named)) }
+{
+    let mut members = Map::new(alloc);
+    put_stmt(&mut members, alloc, stmt, args, named)?;
+    Ok(Json::Object(members))
+}
+
+/// Writes a statement with its members in byte order. What is empty is left out, and so is a `want_rows` that is
+/// true.
+pub fn stmt_to_json(alloc: Global, stmt: &Stmt) -> Result<Json, NoMemory>
+    ensures written { IfOk result (λ json. view json ≡ stmt_data stmt.now) }
+    ensures reads_back { IfOk result (λ json. StmtTree stmt.now (view json)) }
+{
+    let args = values_to_json(alloc, stmt.args.as_slice())?;
+    let named = named_args_to_json(alloc, stmt.named.as_slice())?;
+    let json = stmt_members(alloc, stmt, args, named)?;
+    Ok(json)
+}
+
+/// A JSON tree is the form of at most one statement.
+pub fn no_tree_is_two_statements()
+    ensures { NoTreeIsTwoStatements }
+{}
+
+/// Nothing is declined in the form of a statement exactly where the statement breaks no limit.
+pub fn fitting_statements_are_read()
+    ensures { FittingStatementsAreRead }
+{}
+
+#[cfg(test)]
+mod tests {
+    use super::*;
+    use crate::{
+        Code, NamedArg, NamedArgs, WireError, error_of_json, error_to_json, result_of_json,
+        result_to_json, wire_error,
+    };
+    use hrana_value::{Txt, Value, Values};
+
+    fn read(alloc: Global, text: &str) -> Result<Stmt, ReadFail> {
+        match Json::from_str(alloc, text) {
+            Ok(json) => stmt_of_json(alloc, &json),
+            Err(_) => Err(ReadFail::NoMemory),
+        }
+    }
+
+    #[test]
+    fn declines_come_in_order(rt: HostRuntime) {
+        let cases = [
+            ("5", Decline::Shape),
+            ("{}", Decline::BothSql),
+            (r#"{"sql":5,"sql_id":9999999999}"#, Decline::Shape),
+            (r#"{"sql":"x","sql_id":9999999999}"#, Decline::BothSql),
+            (r#"{"sql_id":9999999999}"#, Decline::Range),
+            (r#"{"sql_id":-0}"#, Decline::Shape),
+            (r#"{"sql":"x","want_rows":0}"#, Decline::Shape),
+            (r#"{"sql":"x","args":{}}"#, Decline::Shape),
+            (r#"{"sql":"x","args":[{"type":"float"}]}"#, Decline::Float),
+            (r#"{"args":[{"type":"float"}]}"#, Decline::BothSql),
+            (r#"{"sql":"x","args":[{"type":"float"},{"type":"integer","value":"9223372036854775808"}]}"#, Decline::Range),
+            (r#"{"sql":"x","args":[{"type":"float"}],"named_args":[{"name":"a"}]}"#, Decline::Shape),
+        ];
+        for (text, want) in cases {
+            match read(rt.alloc(), text) {
+                Ok(_) => assert!(rt; false, "at {text}"),
+                Err(fail) => assert_eq!(rt; fail, ReadFail::Declined(want), "at {text}"),
+            }
+        }
+    }
+
+    #[test]
+    fn statements_are_written_as_they_were_read(rt: HostRuntime) {
+        let cases = [
+            (r#"{"sql":"SELECT 1","args":null,"want_rows":true}"#, r#"{"sql":"SELECT 1"}"#),
+            (r#"{"x":1,"sql_id":-3,"want_rows":false}"#, r#"{"sql_id":-3,"want_rows":false}"#),
+            (
+                r#"{"sql":"x","named_args":[{"name":"a","value":{"type":"null"}}],"args":[{"type":"integer","value":"+5"}]}"#,
+                r#"{"args":[{"type":"integer","value":"5"}],"named_args":[{"name":"a","value":{"type":"null"}}],"sql":"x"}"#,
+            ),
+        ];
+        let alloc = rt.alloc();
+        for (text, want) in cases {
+            match read(alloc, text) {
+                Ok(stmt) => {
+                    let json = stmt_to_json(alloc, &stmt).expect(&rt, "there is memory");
+                    let written = json.to_string(alloc).expect(&rt, "there is memory");
+                    assert_eq!(rt; written.as_str(), want, "at {text}");
+                }
+                Err(_) => assert!(rt; false, "at {text}"),
+            }
+        }
+    }
+
+    #[test]
+    fn results_are_written_as_they_were_read(rt: HostRuntime) {
+        let alloc = rt.alloc();
+        let text = r#"{"affected_row_count":0,"cols":[{"name":"a"},{"name":null}],"last_insert_rowid":"7","rows":[[{"type":"integer","value":"5"}],[]]}"#;
+        let json = Json::from_str(alloc, text).expect(&rt, "it is JSON");
+        match result_of_json(alloc, &json) {
+            Ok(read) => {
+                let json = result_to_json(alloc, &read).expect(&rt, "there is memory");
+                let written = json.to_string(alloc).expect(&rt, "there is memory");
+                assert_eq!(rt; written.as_str(), text);
+            }
+            Err(_) => assert!(rt; false),
+        }
+    }
+
+    #[test]
+    fn an_error_has_its_code_and_message(rt: HostRuntime) {
+        let alloc = rt.alloc();
+        let error = wire_error(alloc, Code::BadType).expect(&rt, "there is memory");
+        let json = error_to_json(alloc, &error).expect(&rt, "there is memory");
+        let written = json.to_string(alloc).expect(&rt, "there is memory");
+        assert_eq!(rt; written.as_str(), r#"{"code":"TYPE","message":"operand is not an integer"}"#);
+        let read: Result<WireError, ReadFail> = error_of_json(alloc, &json);
+        assert!(rt; read.is_ok());
+    }
+
+    #[test]
+    fn at_most_256_arguments_are_read(rt: HostRuntime) {
+        let alloc = rt.alloc();
+        let mut args = Values::new(alloc);
+        for _ in 0..255 {
+            args.push(Value::Null).expect(&rt, "there is memory");
+        }
+        let mut named = NamedArgs::new(alloc);
+        let name = Txt::new(alloc, "a").expect(&rt, "there is memory");
+        let arg = NamedArg {
+            name,
+            value: Value::Null,
+        };
+        named.push(arg).expect(&rt, "there is memory");
+        let sql = SqlRef::Text(Txt::new(alloc, "x").expect(&rt, "there is memory"));
+        let mut stmt = Stmt {
+            sql,
+            args,
+            named,
+            want_rows: true,
+        };
+        let json = stmt_to_json(alloc, &stmt).expect(&rt, "there is memory");
+        assert!(rt; stmt_of_json(alloc, &json).is_ok());
+        stmt.args.push(Value::Null).expect(&rt, "there is memory");
+        let json = stmt_to_json(alloc, &stmt).expect(&rt, "there is memory");
+        match stmt_of_json(alloc, &json) {
+            Ok(_) => assert!(rt; false),
+            Err(fail) => assert_eq!(rt; fail, ReadFail::Declined(Decline::Range)),
+        }
+    }
+}

@@ -1,0 +1,15 @@
+-- Rows of a table of names.
+use Rattle.std.specs.Prelude.{◌≡◌, ℕ, List, ◌<◌, length, map, get_or, []}
+use Rattle.std.specs.Borrow.{Bor}
+
+-- the texts of a table, row by row
+abbrev pub rows_of : List (Bor (List ℕ)) → List (List ℕ)
+rows_of rows = map (λ r. r.now) rows
+
+-- the row has this text
+abbrev pub IsRow : List (Bor (List ℕ)) → ℕ → List ℕ → Type 0
+IsRow rows i text = get_or (rows_of rows) i [] ≡ text
+
+-- no row has this text
+abbrev pub IsNoRow : List (Bor (List ℕ)) → List ℕ → Type 0
+IsNoRow rows text = (i : ℕ) → i < length rows → IsRow rows i text → ⊥
