@@ -3,7 +3,8 @@ use Rattle.std.specs.Prelude.{◌≡◌, List, ℕ, Some, codes, IsUtf8}
 use Rattle.serde_json.specs.Data.{Data}
 use Rattle.serde_json.specs.Read.{read}
 use Rattle.hrana_value.specs.Members.{HasText, HasInt32, IsAbsent, part_at}
-use Rattle.hrana_stmt.specs.Tree.{StmtTree, StmtFits}
+use Rattle.hrana_value.specs.Declines.{NoneStands}
+use Rattle.hrana_stmt.specs.Tree.{StmtTree, StmtStands}
 use Rattle.hrana_serve.specs.declared.message.ClientMsg.{ClientMsg}
 use Rattle.hrana_serve.specs.declared.message.ClientMsg.TheVariants.{Hello, OpenStream, Execute}
 
@@ -20,16 +21,16 @@ MessageTree (Execute id stream stmt) t = HasText t (codes "type") (codes "reques
     × HasText (request_of t) (codes "type") (codes "execute") × HasInt32 (request_of t) (codes "stream_id") stream
     × StmtTree stmt (part_at (codes "stmt") (request_of t))
 
--- the message breaks no limit
-abbrev pub IsWithinLimits : ClientMsg → Type 0
-IsWithinLimits Hello = Unit {0}
-IsWithinLimits (OpenStream id stream) = Unit {0}
-IsWithinLimits (Execute id stream stmt) = StmtFits stmt
+-- nothing in the tree of this message is declined
+abbrev pub IsUndeclined : ClientMsg → Data → Type 0
+IsUndeclined Hello t = Unit {0}
+IsUndeclined (OpenStream id stream) t = Unit {0}
+IsUndeclined (Execute id stream stmt) t = NoneStands (StmtStands (part_at (codes "stmt") (request_of t)))
 
--- The bytes are a text of JSON whose tree is one of the message, which breaks no limit.
+-- The bytes are a text of JSON whose tree is one of the message, and nothing in it is declined.
 pub record IsMessage (m : ClientMsg) (bytes : List ℕ) : Type 0 where
   pub tree : Data
   pub text : IsUtf8 bytes
   pub read : read bytes ≡ Some tree
   pub written : MessageTree m tree
-  pub limits : IsWithinLimits m
+  pub undeclined : IsUndeclined m tree

@@ -3,7 +3,6 @@
 use Rattle.std.specs.Prelude.{◌≡◌, ◌<◌, ℕ, ℤ, Bool, true, false, ◌&&◌, List, [], ◌∷◌, ◌++◌, Option, None, Some, length, nat_eq, ◌==◌, MatchBool, if◌then◌else◌, IsSome, IsSomeAnd}
 use Rattle.std.specs.Cmp.Lexicographic.{pointwise}
 use Rattle.hrana_value.specs.declared.value.Value.{Value}
-use Rattle.hrana_value.specs.declared.value.Value.TheVariants.{Null, Integer, Text as TextValue, Blob}
 use Rattle.hrana_stmt.specs.declared.statements.Stmt.{Stmt}
 use Rattle.hrana_stmt.specs.declared.statements.SqlRef.{SqlRef}
 use Rattle.hrana_stmt.specs.declared.statements.SqlRef.TheVariants as sql
@@ -23,9 +22,9 @@ use Rattle.hrana_serve.specs.declared.script.Event.TheVariants.{Opened, Text, Po
 
 -- ---- the statements that are built so far
 
-abbrev pub is_one_integer : List Value → Bool
-is_one_integer (Integer z ∷ []) = true
-is_one_integer values = false
+abbrev pub is_one_value : List Value → Bool
+is_one_value (value ∷ []) = true
+is_one_value values = false
 
 abbrev pub is_no_value : List Value → Bool
 is_no_value [] = true
@@ -35,10 +34,10 @@ abbrev pub is_no_name : List NamedArg → Bool
 is_no_name [] = true
 is_no_name (arg ∷ args) = false
 
--- an insert of one integer, or the select, of which all rows are wanted
+-- an insert of one value, or the select, of which all rows are wanted
 abbrev pub write_of : List ℕ → Stmt → Option Bool
 write_of text stmt =
-    if pointwise nat_eq text insert_text && is_one_integer stmt.args then Some true
+    if pointwise nat_eq text insert_text && is_one_value stmt.args then Some true
     else (if pointwise nat_eq text select_text && is_no_value stmt.args then Some false else None)
 
 abbrev pub asked_of_text : ℤ → Stmt → List ℕ → Option Bool → Option Asked

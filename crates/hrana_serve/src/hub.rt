@@ -4,7 +4,7 @@ ghost use Rattle.engine_core.specs.Engine.{IsReadOrWrite};
 ghost use Rattle.engine_core.specs.Journal.{fault_of};
 ghost use Rattle.engine_core.specs.Causes.{RoseBy};
 ghost use Rattle.hrana_serve.specs.Means.{bound, wrote_of, IsEntryOf};
-ghost use Rattle.hrana_serve.specs.Step.{is_one_integer, is_no_value, is_no_name, asked_of};
+ghost use Rattle.hrana_serve.specs.Step.{is_one_value, is_no_value, is_no_name, asked_of};
 ghost use Rattle.hrana_serve.specs.Stepped.{Adds, Executes, StepsAs, ArrivesAs, TextAs, places_of};
 ghost use Rattle.hrana_serve.specs.State.{first_state};
 
@@ -35,11 +35,11 @@ pub enum Stepped {
     Lost,
 }
 
-fn is_integer(values: &[Value]) -> bool
-    ensures { result ≡ is_one_integer values.now }
+fn is_single(values: &[Value]) -> bool
+    ensures { result ≡ is_one_value values.now }
 {
     match values {
-        [Value::Integer(_)] => true,
+        [_] => true,
         _ => false,
     }
 }
@@ -78,7 +78,7 @@ fn ask_of(request_id: i32, stmt: Stmt) -> Option<Asked>
     let SqlRef::Text(sql) = sql else {
         return None;
     };
-    let write = if sql.as_str() == "INSERT INTO t VALUES (?)" && is_integer(args.as_slice()) {
+    let write = if sql.as_str() == "INSERT INTO t VALUES (?)" && is_single(args.as_slice()) {
         true
     } else if sql.as_str() == "SELECT a FROM t" && is_empty(args.as_slice()) {
         false

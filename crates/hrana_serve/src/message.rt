@@ -1,7 +1,7 @@
 // Client messages.
 ghost use Rattle.std.specs.Prelude.{◌≡◌, IfOk, IfErr};
 ghost use Rattle.serde_json.specs.View.{view};
-ghost use Rattle.hrana_serve.specs.Messages.{MessageTree, IsWithinLimits, IsMessage};
+ghost use Rattle.hrana_serve.specs.Messages.{MessageTree, IsUndeclined, IsMessage};
 ghost use Rattle.hrana_serve.specs.declared.message.ClientMsg.{ClientMsg};
 
 use hrana_stmt::{Stmt, stmt_of_json};
@@ -35,8 +35,8 @@ pub enum DecodeFail {
 
 fn message_of_json(alloc: Global, json: &Json) -> Result<ClientMsg, DecodeFail>
     ensures ok { IfOk result (λ m. MessageTree m (view json.now)) }
-    ensures limits { IfOk result IsWithinLimits }
-    ensures none { IfErr result (λ e. e ≡ DecodeFail.NoMessage → (m : ClientMsg) → MessageTree m (view json.now) → IsWithinLimits m → ⊥) }
+    ensures undeclined { IfOk result (λ m. IsUndeclined m (view json.now)) }
+    ensures none { IfErr result (λ e. e ≡ DecodeFail.NoMessage → (m : ClientMsg) → MessageTree m (view json.now) → IsUndeclined m (view json.now) → ⊥) }
 {
     let Some(kind) = text_member(json, "type") else {
         return Err(DecodeFail::NoMessage);
