@@ -1,5 +1,5 @@
 -- The codes of errors and their messages.
-use Rattle.std.specs.Prelude.{ℕ, List, Some, codes}
+use Rattle.std.specs.Prelude.{◌≡◌, ℕ, List, Some, codes}
 use Rattle.hrana_stmt.specs.declared.errors.WireError.{WireError}
 use Rattle.hrana_stmt.specs.declared.codes.Code.{Code}
 use Rattle.hrana_stmt.specs.declared.codes.Code.TheVariants.{FloatUnsupported, DescribeUnsupported, UnknownRequest, BadStep, BadRequest, Auth, StreamNotOpen, StreamExists, TooManyStreams, StreamLost, CursorNotOpen, CursorExists, CursorOpen, SqlIdInUse, NoSqlId, TooManyTexts, BatonDead, NoToken, NoMemory, SqlOpen, NoStatement, ManyStatements, SavepointUnsupported, SqlUnsupported, Args, TxnOpen, NoTxn, Busy, EngineFault, SqlRefused, Syntax, NoTable, NoColumn, TableExists, Constraint, BadType, Overflow, ResultTooLarge}
@@ -87,3 +87,7 @@ message_of ResultTooLarge = codes "result is too large"
 -- the error of a code
 abbrev pub error_of : Code → WireError
 error_of c = record { message = message_of c; code = Some (name_of c) }
+
+-- no two codes share a name
+abbrev pub CodesDiffer : Type 0
+CodesDiffer = (c d : Code) → name_of c ≡ name_of d → c ≡ d

@@ -1,5 +1,5 @@
 ghost use Rattle.std.specs.Prelude.{◌≡◌};
-ghost use Rattle.hrana_stmt.specs.Codes.{name_of, message_of};
+ghost use Rattle.hrana_stmt.specs.Codes.{name_of, message_of, CodesDiffer};
 
 /// Why a request is refused.
 #[derive(Clone, Copy, Debug, PartialEq, Eq)]
@@ -135,3 +135,8 @@ pub fn code_message(code: Code) -> &'static str
         Code::ResultTooLarge => "result is too large",
     }
 }
+
+/// No two codes share a name.
+pub fn codes_differ()
+    ensures { CodesDiffer }
+{}

@@ -200,8 +200,14 @@ mod tests {
             (r#"{"sql":"x","args":{}}"#, Decline::Shape),
             (r#"{"sql":"x","args":[{"type":"float"}]}"#, Decline::Float),
             (r#"{"args":[{"type":"float"}]}"#, Decline::BothSql),
-            (r#"{"sql":"x","args":[{"type":"float"},{"type":"integer","value":"9223372036854775808"}]}"#, Decline::Range),
-            (r#"{"sql":"x","args":[{"type":"float"}],"named_args":[{"name":"a"}]}"#, Decline::Shape),
+            (
+                r#"{"sql":"x","args":[{"type":"float"},{"type":"integer","value":"9223372036854775808"}]}"#,
+                Decline::Range,
+            ),
+            (
+                r#"{"sql":"x","args":[{"type":"float"}],"named_args":[{"name":"a"}]}"#,
+                Decline::Shape,
+            ),
         ];
         for (text, want) in cases {
             match read(rt.alloc(), text) {
@@ -214,8 +220,14 @@ mod tests {
     #[test]
     fn statements_are_written_as_they_were_read(rt: HostRuntime) {
         let cases = [
-            (r#"{"sql":"SELECT 1","args":null,"want_rows":true}"#, r#"{"sql":"SELECT 1"}"#),
-            (r#"{"x":1,"sql_id":-3,"want_rows":false}"#, r#"{"sql_id":-3,"want_rows":false}"#),
+            (
+                r#"{"sql":"SELECT 1","args":null,"want_rows":true}"#,
+                r#"{"sql":"SELECT 1"}"#,
+            ),
+            (
+                r#"{"x":1,"sql_id":-3,"want_rows":false}"#,
+                r#"{"sql_id":-3,"want_rows":false}"#,
+            ),
             (
                 r#"{"sql":"x","named_args":[{"name":"a","value":{"type":"null"}}],"args":[{"type":"integer","value":"+5"}]}"#,
                 r#"{"args":[{"type":"integer","value":"5"}],"named_args":[{"name":"a","value":{"type":"null"}}],"sql":"x"}"#,
@@ -237,7 +249,8 @@ mod tests {
     #[test]
     fn results_are_written_as_they_were_read(rt: HostRuntime) {
         let alloc = rt.alloc();
-        let text = r#"{"affected_row_count":0,"cols":[{"name":"a"},{"name":null}],"last_insert_rowid":"7","rows":[[{"type":"integer","value":"5"}],[]]}"#;
+        let text =
+            r#"{"affected_row_count":0,"cols":[{"name":"a"},{"name":null}],"last_insert_rowid":"7","rows":[[{"type":"integer","value":"5"}],[]]}"#;
         let json = Json::from_str(alloc, text).expect(&rt, "it is JSON");
         match result_of_json(alloc, &json) {
             Ok(read) => {
@@ -255,7 +268,10 @@ mod tests {
         let error = wire_error(alloc, Code::BadType).expect(&rt, "there is memory");
         let json = error_to_json(alloc, &error).expect(&rt, "there is memory");
         let written = json.to_string(alloc).expect(&rt, "there is memory");
-        assert_eq!(rt; written.as_str(), r#"{"code":"TYPE","message":"operand is not an integer"}"#);
+        assert_eq!(rt;
+            written.as_str(),
+            r#"{"code":"TYPE","message":"operand is not an integer"}"#
+        );
         let read: Result<WireError, ReadFail> = error_of_json(alloc, &json);
         assert!(rt; read.is_ok());
     }

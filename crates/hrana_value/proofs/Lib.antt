@@ -4,6 +4,7 @@ pub mod DeclineLemmas
 pub mod IntegerLemmas
 pub mod ItemsLemmas
 pub mod PartLemmas
+pub mod NameLemmas
 pub mod NoFloats
 pub mod TextLemmas
 pub mod TreeLemmas

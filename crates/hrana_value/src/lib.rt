@@ -26,8 +26,8 @@ pub use readings::{both, with_item};
 pub use text::Txt;
 pub use texts::{optional_text_of_json, text_of_json};
 pub use tree::{
-    no_tree_is_two_values, no_value_is_declined, optional_values_of_json, value_of_json,
-    values_of_json,
+    VALUE_KINDS, no_tree_is_two_values, no_value_is_declined, optional_values_of_json,
+    value_kinds_differ, value_of_json, values_of_json,
 };
 pub use value::{Value, Values};
 pub use written::{value_to_json, values_to_json};

@@ -1,19 +1,35 @@
 // Values from JSON trees.
-ghost use Rattle.std.specs.Prelude.{◌≡◌, List, ℕ, IfOk, IfErr, codes};
+ghost use Rattle.std.specs.Prelude.{◌≡◌, List, ℕ, IfOk, IfErr, codes, map};
 ghost use Rattle.serde_json.specs.View.{view, items_view};
 ghost use Rattle.base64.specs.GeneralPurpose.{encode_of, IsBytes};
 ghost use Rattle.base64.specs.Engines.{standard_no_pad};
 ghost use Rattle.hrana_value.specs.Base64.{SpellsBytes};
 ghost use Rattle.hrana_value.specs.Declines.{Reads};
 ghost use Rattle.hrana_value.specs.Members.{HasText};
+ghost use Rattle.hrana_value.specs.Names.{RowsDiffer};
 ghost use Rattle.hrana_value.specs.Tree.{ValueTree, ValueStands, ValuesTree, ValuesStand, OptionalValuesTree, OptionalValuesStand, NoTreeIsTwoValues, NoValueIsDeclined};
 ghost use Rattle.hrana_value.specs.declared.failures.Decline.{Decline};
 
-use crate::{Bytes, Decline, ReadFail, Txt, Value, Values, int64_of_text, text_member, with_item};
+use crate::{
+    Bytes, Decline, ReadFail, Txt, Value, Values, index_of, int64_of_text, text_member, with_item,
+};
 use base64::DecodeAllocError;
 use base64::engine::general_purpose::{STANDARD, STANDARD_NO_PAD};
 use serde_json::Value as Json;
 use std::alloc::Global;
+
+/// The `type` of each kind of value.
+pub const VALUE_KINDS: [&str; 5] = ["null", "integer", "float", "text", "blob"];
+
+const NULL: usize = 0;
+
+const INTEGER: usize = 1;
+
+const FLOAT: usize = 2;
+
+const TEXT: usize = 3;
+
+const BLOB: usize = 4;
 
 fn bytes_without_padding(alloc: Global, text: &str) -> Result<Bytes, ReadFail>
     ensures ok { IfOk result (λ b. IsBytes b × (text.now ≡ encode_of standard_no_pad b)) }
@@ -84,18 +100,13 @@ pub fn value_of_json(alloc: Global, json: &Json) -> Result<Value, ReadFail>
     let Some(kind) = text_member(json, "type") else {
         return Err(ReadFail::Declined(Decline::Shape));
     };
-    if kind == "null" {
-        Ok(Value::Null)
-    } else if kind == "integer" {
-        integer_of_json(json)
-    } else if kind == "float" {
-        Err(ReadFail::Declined(Decline::Float))
-    } else if kind == "text" {
-        text_value_of_json(alloc, json)
-    } else if kind == "blob" {
-        blob_of_json(alloc, json)
-    } else {
-        Err(ReadFail::Declined(Decline::Shape))
+    match index_of(&VALUE_KINDS, kind) {
+        Some(NULL) => Ok(Value::Null),
+        Some(INTEGER) => integer_of_json(json),
+        Some(FLOAT) => Err(ReadFail::Declined(Decline::Float)),
+        Some(TEXT) => text_value_of_json(alloc, json),
+        Some(BLOB) => blob_of_json(alloc, json),
+        _ => Err(ReadFail::Declined(Decline::Shape)),
     }
 }
 
@@ -123,6 +134,11 @@ pub fn optional_values_of_json(alloc: Global, json: &Json) -> Result<Values, Rea
         _ => Err(ReadFail::Declined(Decline::Shape)),
     }
 }
+
+/// No two kinds of value have one `type`.
+pub fn value_kinds_differ()
+    ensures { RowsDiffer (map (λ row. row.now) VALUE_KINDS) }
+{}
 
 /// A JSON tree is the form of at most one value.
 pub fn no_tree_is_two_values()
@@ -165,7 +181,10 @@ mod tests {
         let cases = [
             (r#"{"type":"null"}"#, "null"),
             (r#"{"type":"integer","value":"+5"}"#, "5"),
-            (r#"{"type":"integer","value":"-9223372036854775808","x":1}"#, "-9223372036854775808"),
+            (
+                r#"{"type":"integer","value":"-9223372036854775808","x":1}"#,
+                "-9223372036854775808",
+            ),
             (r#"{"type":"text","value":"caf\u00e9"}"#, "café"),
             (r#"{"type":"blob","base64":"AQ"}"#, "[1]"),
             (r#"{"type":"blob","base64":"AQ=="}"#, "[1]"),
@@ -186,9 +205,18 @@ mod tests {
             (r#"{"type":"integer","value":"-"}"#, Decline::Shape),
             (r#"{"type":"integer","value":"5 "}"#, Decline::Shape),
             (r#"{"type":"integer","value":5}"#, Decline::Shape),
-            (r#"{"type":"integer","value":"99999999999999999999x"}"#, Decline::Shape),
-            (r#"{"type":"integer","value":"9223372036854775808"}"#, Decline::Range),
-            (r#"{"type":"integer","value":"-9223372036854775809"}"#, Decline::Range),
+            (
+                r#"{"type":"integer","value":"99999999999999999999x"}"#,
+                Decline::Shape,
+            ),
+            (
+                r#"{"type":"integer","value":"9223372036854775808"}"#,
+                Decline::Range,
+            ),
+            (
+                r#"{"type":"integer","value":"-9223372036854775809"}"#,
+                Decline::Range,
+            ),
             (r#"{"type":"text"}"#, Decline::Shape),
             (r#"{"type":"blob","base64":"AR=="}"#, Decline::Shape),
             (r#"{"type":"blob","base64":"AR"}"#, Decline::Shape),
@@ -208,7 +236,8 @@ mod tests {
     #[test]
     fn the_first_kind_of_a_list_is_answered(rt: HostRuntime) {
         let alloc = rt.alloc();
-        let text = r#"[{"type":"float"},{"type":"integer","value":"9223372036854775808"},{"type":"float"}]"#;
+        let text =
+            r#"[{"type":"float"},{"type":"integer","value":"9223372036854775808"},{"type":"float"}]"#;
         let json = Json::from_str(alloc, text).expect(&rt, "there is memory");
         match optional_values_of_json(alloc, &json) {
             Ok(_) => assert!(rt; false),
@@ -220,7 +249,10 @@ mod tests {
     fn a_copied_blob_is_written_with_its_padding(rt: HostRuntime) {
         let alloc = rt.alloc();
         let blob = Value::Blob(Bytes::new(alloc, &[1]).expect(&rt, "there is memory"));
-        let json = value_to_json(alloc, &blob.copy(alloc).expect(&rt, "there is memory")).expect(&rt, "there is memory");
+        let json = value_to_json(alloc, &blob.copy(alloc).expect(&rt, "there is memory")).expect(
+            &rt,
+            "there is memory",
+        );
         let text = json.to_string(alloc).expect(&rt, "there is memory");
         assert_eq!(rt; text.as_str(), r#"{"base64":"AQ==","type":"blob"}"#);
     }
