@@ -159,7 +159,9 @@ fn statements_that_are_not_built_are_bad(rt: HostRuntime) -> Result<(), Fail> {
         "{\"sql\":\"SELECT a FROM t\",\"args\":[{\"type\":\"null\"}]}",
         "{\"sql\":\"SELECT a FROM t\",\"named_args\":[{\"name\":\"a\",\"value\":{\"type\":\"null\"}}]}",
         "{\"sql\":\"INSERT INTO t VALUES (?)\"}",
-        "{\"sql\":\"INSERT INTO t VALUES (?)\",\"args\":[{\"type\":\"text\",\"value\":\"5\"}]}",
+        "{\"sql\":\"INSERT INTO t VALUES (?)\",\"args\":[{\"type\":\"null\"},{\"type\":\"null\"}]}",
+        "{\"sql\":\"INSERT INTO t VALUES (?)\",\"args\":[{\"type\":\"float\",\"value\":1.5}]}",
+        "{\"sql\":\"INSERT INTO t VALUES (?)\",\"args\":[{\"type\":\"blob\",\"base64\":\"AR==\"}]}",
         "{\"sql\":\"INSERT INTO t VALUES (?)\",\"args\":[{\"type\":\"integer\",\"value\":5}]}",
         "{\"sql\":\"INSERT INTO t VALUES (?)\",\"args\":[{\"type\":\"integer\",\"value\":\"9223372036854775808\"}]}",
     ] {
