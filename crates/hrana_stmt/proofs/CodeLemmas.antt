@@ -1,5 +1,5 @@
 -- No two codes share a name.
-use Rattle.std.proofs.Common.{◌≡◌, ℕ, ◌<◌, List, [], ◌∷◌, length, get_or, codes, refl, sym, ◌∙◌, ap, lit<}
+use Rattle.std.proofs.Common.{◌≡◌, ℕ, ◌<◌, List, [], ◌∷◌, length, get_or, refl, sym, ◌∙◌, ap, lit<}
 use Rattle.hrana_value.proofs.NameLemmas.{all_differ-get_or}
 use Rattle.hrana_stmt.specs.declared.codes.Code.{Code}
 use Rattle.hrana_stmt.specs.declared.codes.Code.TheVariants.{FloatUnsupported, DescribeUnsupported, UnknownRequest, BadStep, BadRequest, Auth, StreamNotOpen, StreamExists, TooManyStreams, StreamLost, CursorNotOpen, CursorExists, CursorOpen, SqlIdInUse, NoSqlId, TooManyTexts, BatonDead, NoToken, NoMemory, SqlOpen, NoStatement, ManyStatements, SavepointUnsupported, SqlUnsupported, Args, TxnOpen, NoTxn, Busy, EngineFault, SqlRefused, Syntax, NoTable, NoColumn, TableExists, Constraint, BadType, Overflow, ResultTooLarge}

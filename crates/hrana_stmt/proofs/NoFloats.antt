@@ -1,11 +1,10 @@
 -- What is written has no float, so that its text is the compact text of its tree.
-use Rattle.std.proofs.Common.{◌≡◌, List, [], ◌∷◌, Option, None, Some, Bool, true, false, ℤ, ℕ, refl}
+use Rattle.std.proofs.Common.{◌≡◌, List, Option, None, Some, Bool, true, false, ℤ, ℕ, refl}
 use Rattle.std.specs.Prelude.{pos, negsuc}
-use Rattle.serde_json.specs.Data.{Data, Members, number, array, object}
+use Rattle.serde_json.specs.Data.{Data, Members, number}
 use Rattle.serde_json.specs.Find.{of_integer}
 use Rattle.serde_json.specs.Written.{has_float, members_have_float}
 use Rattle.hrana_value.specs.declared.value.Value.{Value}
-use Rattle.hrana_value.specs.Written.{values_data, value_data}
 use Rattle.hrana_value.proofs.NoFloats.{neither, items_have_float-map, has_float-values_data, has_float-value_data}
 use Rattle.hrana_stmt.specs.declared.results.Col.{Col}
 use Rattle.hrana_stmt.specs.declared.results.StmtResult.{StmtResult}

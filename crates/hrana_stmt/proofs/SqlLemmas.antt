@@ -1,19 +1,17 @@
 -- What stands in the parts `sql` and `sql_id`.
-use Rattle.std.proofs.Common.{◌≡◌, ◌⊎◌, inl, inr, ℕ, ◌<◌, ◌≤◌, ℤ, Option, None, Some, List, length, sym, ◌∙◌, subst, refl, arith, ap}
-use Rattle.std.specs.Prelude.{Result, Ok, Err, IsSomeAnd, FitsSigned, option_and_then}
+use Rattle.std.proofs.Common.{◌≡◌, ◌⊎◌, inl, inr, ℕ, ◌<◌, ◌≤◌, ℤ, Option, None, Some, List, length, sym, ◌∙◌, subst, refl, arith}
+use Rattle.std.specs.Prelude.{Ok, Err, IsSomeAnd, FitsSigned}
 use Rattle.std.specs.Int.{w32}
 use Rattle.serde_json.specs.Data.{Data, null}
 use Rattle.serde_json.specs.Find.{as_str}
 use Rattle.hrana_value.specs.declared.failures.Decline.{Decline}
 use Rattle.hrana_value.specs.declared.failures.Decline.TheVariants.{Unknown, Describe, Shape, BothSql, BadStep, Range, Float}
-use Rattle.hrana_value.specs.declared.failures.ReadFail.{ReadFail}
-use Rattle.hrana_value.specs.declared.failures.ReadFail.TheVariants.{Declined, NoMemory}
-use Rattle.hrana_value.specs.Declines.{rank_of, IsFirst, NoneStands, Reads}
+use Rattle.hrana_value.specs.declared.failures.ReadFail.TheVariants.{Declined}
+use Rattle.hrana_value.specs.Declines.{rank_of, NoneStands, Reads}
 use Rattle.hrana_value.specs.Members.{whole_of, TextTree, Int32Tree}
 use Rattle.hrana_value.proofs.DeclineLemmas.{Reads-ok, Reads-declined}
-use Rattle.hrana_stmt.specs.Tree.{SqlPartsStand, IsGiven, IsWithinSqlLimit}
+use Rattle.hrana_stmt.specs.Tree.{SqlPartsStand, IsGiven}
 use Rattle.hrana_stmt.specs.Parts.{SqlPartsTree}
-use Rattle.hrana_stmt.specs.declared.statements.SqlRef.{SqlRef}
 use Rattle.hrana_stmt.specs.declared.statements.SqlRef.TheVariants.{Text, Id}
 
 -- ---- which kinds can't stand before another

@@ -1,22 +1,20 @@
 -- A tree is one of at most one statement, and is read where the statement breaks no limit.
-use Rattle.std.proofs.Common.{◌≡◌, ◌⊎◌, inl, inr, ◌↔◌, ap, sym, subst, ◌∙◌, Option, None, Some, List, ℕ, ℤ, Bool, true, codes, ◌<◌, ◌+◌, ◌≤◌, length, arith, refl}
+use Rattle.std.proofs.Common.{◌≡◌, inl, inr, ap, sym, subst, ◌∙◌, List, ℕ, Bool, codes, ◌<◌, ◌+◌, ◌≤◌, length, arith, refl}
 use Rattle.std.specs.Prelude.{IsSomeAnd}
 use Rattle.std.proofs.lemmas.Bool.{cases_lt}
 use Rattle.serde_json.specs.Data.{Data, null, boolean, number, string, array, object}
-use Rattle.serde_json.specs.Find.{as_str}
 use Rattle.hrana_value.specs.declared.value.Value.{Value}
-use Rattle.hrana_value.specs.declared.failures.Decline.{Decline}
 use Rattle.hrana_value.specs.declared.failures.Decline.TheVariants.{Range}
 use Rattle.hrana_value.specs.Declines.{NoneStands, EitherStands, Only}
-use Rattle.hrana_value.specs.Members.{part_at, text_at, whole_of, HasText, TextTree, TextStands}
-use Rattle.hrana_value.specs.Tree.{ValueTree, ValueStands, OptionalValuesTree, OptionalValuesStand}
+use Rattle.hrana_value.specs.Members.{part_at, text_at, TextStands}
+use Rattle.hrana_value.specs.Tree.{ValueTree, ValueStands, OptionalValuesStand}
 use Rattle.hrana_value.proofs.TextLemmas.{one}
 use Rattle.hrana_value.proofs.TreeLemmas.{ValueTree-one, OptionalValuesTree-one, ValueTree-none}
 use Rattle.hrana_value.proofs.ItemsLemmas.{OptionalArrayTree-one}
 use Rattle.hrana_value.proofs.ArrayLemmas.{OptionalArrayTree-none}
 use Rattle.hrana_value.proofs.PartLemmas.{TextTree-none}
-use Rattle.hrana_value.proofs.DeclineLemmas.{NoneStands-parts, NoneStands-left, NoneStands-right, NoneStands-only}
-use Rattle.hrana_stmt.specs.Tree.{SqlTree, SqlStands, IsWithinSqlLimit, IsObject, ObjectStands, NamedArgTree, NamedArgStands, OptionalNamedArgsTree, OptionalNamedArgsStand, WantsRowsTree, WantsRowsStands, ArgumentsStand, StmtHeadStands, StmtStands, StmtTree, StmtFits, NoTreeIsTwoStatements, FittingStatementsAreRead, count_of}
+use Rattle.hrana_value.proofs.DeclineLemmas.{NoneStands-parts}
+use Rattle.hrana_stmt.specs.Tree.{SqlTree, SqlStands, IsWithinSqlLimit, IsObject, ObjectStands, NamedArgTree, NamedArgStands, OptionalNamedArgsStand, WantsRowsTree, WantsRowsStands, ArgumentsStand, StmtHeadStands, StmtStands, StmtTree, StmtFits, NoTreeIsTwoStatements, FittingStatementsAreRead, count_of}
 use Rattle.hrana_stmt.specs.declared.statements.SqlRef.{SqlRef}
 use Rattle.hrana_stmt.specs.declared.statements.SqlRef.TheVariants.{Text, Id}
 use Rattle.hrana_stmt.specs.declared.statements.NamedArg.{NamedArg}

@@ -1,5 +1,5 @@
 -- What the readers of a statement answer, by its parts.
-use Rattle.std.proofs.Common.{◌≡◌, Bool, true, Option, None, Some, subst, sym, refl, codes}
+use Rattle.std.proofs.Common.{◌≡◌, Bool, true, None, Some, subst, sym, refl, codes}
 use Rattle.std.specs.Prelude.{Result, Ok, Err}
 use Rattle.serde_json.specs.Data.{Data, null, boolean, number, string, array, object}
 use Rattle.serde_json.specs.Find.{as_bool}

@@ -1,5 +1,5 @@
 -- What is written for a statement is a form of it.
-use Rattle.std.proofs.Common.{◌≡◌, ℕ, List, [], ◌∷◌, Bool, true, false, Option, None, Some, codes, refl, subst, sym, ap, ◌∙◌}
+use Rattle.std.proofs.Common.{◌≡◌, ℕ, List, [], ◌∷◌, Bool, true, false, None, Some, codes, refl, subst, sym, ap, ◌∙◌}
 use Rattle.std.specs.Prelude.{pos, negsuc, ℤ, unwrap_or}
 use Rattle.serde_json.specs.Data.{Data, null, boolean, number, string, array, object, Members, no_members, member}
 use Rattle.serde_json.specs.Find.{get_member, of_integer, as_str}
@@ -9,7 +9,6 @@ use Rattle.hrana_value.specs.Trees.{ArrayTree, OptionalArrayTree}
 use Rattle.hrana_stmt.specs.declared.statements.SqlRef.{SqlRef}
 use Rattle.hrana_stmt.specs.declared.statements.SqlRef.TheVariants.{Text, Id}
 use Rattle.hrana_stmt.specs.declared.statements.Stmt.{Stmt}
-use Rattle.hrana_stmt.specs.declared.statements.NamedArg.{NamedArg}
 use Rattle.hrana_stmt.specs.Tree.{NamedArgTree, StmtTree, SqlTree, WantsRowsTree}
 use Rattle.hrana_stmt.specs.Written.{is_empty, member_unless, sql_member, stmt_object}
 use Rattle.hrana_stmt.specs.Puts.{put_unless, put_sql, put_parts, SqlIdFits}

@@ -1,6 +1,6 @@
 -- Which JSON trees statements, results and errors may be written as, and which declines stand in a tree that should
 -- be one.
-use Rattle.std.specs.Prelude.{◌≡◌, ◌⊎◌, ◌↔◌, ℕ, suc, ℤ, ◌+◌, ◌≤◌, ◌<◌, Bool, true, List, length, Option, None, Some, codes, IsSomeAnd, FitsSigned}
+use Rattle.std.specs.Prelude.{◌≡◌, ◌⊎◌, ◌↔◌, ℕ, suc, ◌+◌, ◌≤◌, ◌<◌, Bool, true, List, length, None, codes, IsSomeAnd, FitsSigned}
 use Rattle.std.specs.Int.{w32}
 use Rattle.serde_json.specs.Data.{Data, null, boolean, number, string, array, object, Items, no_items, item}
 use Rattle.serde_json.specs.Find.{as_str}
@@ -10,7 +10,7 @@ use Rattle.hrana_value.specs.declared.value.Value.{Value}
 use Rattle.hrana_value.specs.Declines.{NoneStands, EitherStands, Only}
 use Rattle.hrana_value.specs.Members.{HasText, HasInt32, IsAbsent, part_at, whole_of, TextTree, TextStands, Uint64Tree, Uint64Stands}
 use Rattle.hrana_value.specs.Tree.{ValueTree, ValueStands, OptionalValuesTree, OptionalValuesStand, Int64TextTree, Int64TextStands}
-use Rattle.hrana_value.specs.Trees.{ItemsTree, ItemsStand, ArrayTree, ArrayStands, OptionalArrayTree, OptionalArrayStands, OptionalTree, OptionalStands}
+use Rattle.hrana_value.specs.Trees.{ItemsTree, ArrayTree, ArrayStands, OptionalArrayTree, OptionalArrayStands, OptionalTree, OptionalStands}
 use Rattle.hrana_stmt.specs.declared.statements.SqlRef.{SqlRef}
 use Rattle.hrana_stmt.specs.declared.statements.SqlRef.TheVariants.{Text, Id}
 use Rattle.hrana_stmt.specs.declared.statements.NamedArg.{NamedArg}

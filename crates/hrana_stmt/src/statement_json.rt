@@ -3,7 +3,7 @@ ghost use Rattle.std.specs.Prelude.{◌≡◌, IfOk, OnOk, Bool};
 ghost use Rattle.serde_json.specs.View.{view, members_view};
 ghost use Rattle.hrana_stmt.specs.Written.{stmt_object, stmt_data};
 ghost use Rattle.hrana_stmt.specs.Puts.{put_unless, put_sql, put_parts, SqlIdFits};
-ghost use Rattle.hrana_value.specs.Declines.{Reads, EitherStands};
+ghost use Rattle.hrana_value.specs.Declines.{Reads, EitherStands, TakesNoMemory};
 ghost use Rattle.hrana_stmt.specs.Tree.{IsObject, ObjectStands, SqlTree, SqlStands, WantsRowsTree, WantsRowsStands, StmtTree, StmtStands, NoTreeIsTwoStatements, FittingStatementsAreRead};
 ghost use Rattle.hrana_stmt.specs.Parts.{HeadTree, HeadStands, StmtPartsTree, StmtPartsStand};
 
@@ -27,7 +27,8 @@ fn want_rows_of_json(json: &Json) -> Result<bool, ReadFail>
 
 /// Whether the tree is an object.
 pub fn object_of_json(json: &Json) -> Result<(), ReadFail>
-    ensures { Reads (λ _. IsObject (view json.now)) (ObjectStands (view json.now)) result }
+    ensures reads { Reads (λ _. IsObject (view json.now)) (ObjectStands (view json.now)) result }
+    ensures memory { TakesNoMemory result }
 {
     match json {
         Json::Object(_) => Ok(()),

@@ -2,7 +2,7 @@
 use Rattle.std.proofs.Common.{◌≡◌, ℕ, List, Option, None, Some, sym, ◌∙◌, inl, inr, refl}
 use Rattle.std.specs.declared.result.Result.TheVariants.{Ok}
 use Rattle.base64.specs.Engines.{standard, standard_no_pad}
-use Rattle.base64.specs.GeneralPurpose.{encode_of, decode_of, decoded_bytes_of, IsBytes}
+use Rattle.base64.specs.GeneralPurpose.{decode_of, decoded_bytes_of}
 use Rattle.base64.proofs.EngineFacts.{decode_of-encode_of}
 use Rattle.base64.specs.Decode.{decode_outcome}
 use Rattle.base64.specs.declared.decode.DecodeError.{DecodeError}

@@ -1,10 +1,9 @@
 -- The first kind of decline in a tree of several parts.
-use Rattle.std.proofs.Common.{◌≡◌, ℕ, ◌<◌, ◌≤◌, ◌⊎◌, inl, inr, Bool, true, false, List, [], ◌∷◌, ◌++◌, arith, refl, sym, ◌∙◌, subst}
+use Rattle.std.proofs.Common.{◌≡◌, ℕ, ◌<◌, ◌≤◌, inl, inr, Bool, true, false, List, [], ◌∷◌, ◌++◌, arith, refl, sym, ◌∙◌, subst}
 use Rattle.std.specs.Prelude.{Result, Ok, Err, IfOk, IfErr, nat_lt, if◌then◌else◌, Vec}
 use Rattle.std.specs.declared.alloc.Global.{Global}
 use Rattle.std.proofs.lemmas.Bool.Decides.{nat_tests}
 use Rattle.hrana_value.specs.declared.failures.Decline.{Decline}
-use Rattle.hrana_value.specs.declared.failures.Decline.TheVariants.{Unknown, Describe, Shape, BothSql, BadStep, Range, Float}
 use Rattle.hrana_value.specs.declared.failures.ReadFail.{ReadFail}
 use Rattle.hrana_value.specs.declared.failures.ReadFail.TheVariants.{Declined, NoMemory}
 use Rattle.hrana_value.specs.Declines.{rank_of, IsFirst, NoneStands, EitherStands, Only, IsDeclinedAs, Reads, earlier_of, both_of, more_of, items_of_reading}

@@ -1,6 +1,6 @@
 -- The decimal text of an integer reads as that integer.
-use Rattle.std.proofs.Common.{◌≡◌, ℕ, suc, ◌<◌, List, ◌∷◌, false, cond, sym, ◌∙◌, refl, ap, subst, arith, ℤ, pos, negsuc}
-use Rattle.std.specs.Prelude.{Ok, ⊤, FitsSigned, neg_ℤ, slice_index, ◌==◌}
+use Rattle.std.proofs.Common.{◌≡◌, ℕ, suc, ◌<◌, List, ◌∷◌, false, cond, sym, ◌∙◌, ap, subst, arith, ℤ, pos, negsuc}
+use Rattle.std.specs.Prelude.{FitsSigned, neg_ℤ, slice_index, ◌==◌}
 use Rattle.std.specs.Int.{w64}
 use Rattle.std.specs.Fmt.{decimal, signed_decimal}
 use Rattle.std.specs.Str.Parse.{IsNumeral, digits_value, without_leading_sign, without_leading_plus, starts_with_minus, signed_digits_value}

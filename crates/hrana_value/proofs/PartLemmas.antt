@@ -1,14 +1,14 @@
 -- What readers of single parts answer.
-use Rattle.std.proofs.Common.{◌≡◌, ◌⊎◌, inl, inr, ℕ, ◌<◌, ℤ, Option, None, Some, List, Bool, true, false, sym, ◌∙◌, subst, refl, arith, ap}
-use Rattle.std.specs.Prelude.{Result, Ok, Err, is_some, pos, IsSomeAnd}
+use Rattle.std.proofs.Common.{◌≡◌, ◌⊎◌, inl, inr, ℕ, ◌<◌, ℤ, Option, None, Some, List, true, false, sym, ◌∙◌, subst, refl, arith, ap}
+use Rattle.std.specs.Prelude.{Ok, Err, is_some, IsSomeAnd}
 use Rattle.serde_json.specs.Data.{Data, null, boolean, number, string, array, object}
 use Rattle.serde_json.specs.Find.{as_null, as_str}
 use Rattle.hrana_value.specs.declared.failures.Decline.{Decline}
 use Rattle.hrana_value.specs.declared.failures.Decline.TheVariants.{Unknown, Describe, Shape, BothSql, BadStep, Range, Float}
 use Rattle.hrana_value.specs.declared.failures.ReadFail.{ReadFail}
 use Rattle.hrana_value.specs.declared.failures.ReadFail.TheVariants.{Declined, NoMemory}
-use Rattle.hrana_value.specs.Declines.{rank_of, IsFirst, NoneStands, Reads, Only}
-use Rattle.hrana_value.specs.Members.{whole_of, WholeStands, TextTree, TextStands, FitsUnsigned}
+use Rattle.hrana_value.specs.Declines.{rank_of, NoneStands, Reads}
+use Rattle.hrana_value.specs.Members.{whole_of, WholeStands, TextTree, TextStands}
 use Rattle.std.specs.Str.Parse.{signed_digits_value}
 use Rattle.hrana_value.specs.Tree.{IsIntegerText, FitsI64, Int64TextTree, Int64TextStands}
 use Rattle.hrana_value.proofs.TextLemmas.{one}

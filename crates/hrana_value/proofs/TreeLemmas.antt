@@ -1,6 +1,6 @@
 -- A tree is one of at most one value, and what is declined is none.
-use Rattle.std.proofs.Common.{◌≡◌, ◌⊎◌, inl, inr, ℕ, ◌<◌, List, codes, refl, ap, subst, sym, ◌∙◌, Option, None, Some, arith}
-use Rattle.std.specs.Prelude.{Ok, Err, ⊤, Result}
+use Rattle.std.proofs.Common.{◌≡◌, ◌⊎◌, inl, inr, ℕ, ◌<◌, List, codes, refl, ap, subst, sym, ◌∙◌, None, arith}
+use Rattle.std.specs.Prelude.{Ok, Err}
 use Rattle.std.specs.Str.Parse.{signed_digits_value}
 use Rattle.serde_json.specs.Data.{Data}
 use Rattle.hrana_value.proofs.TextLemmas.{one, apart}
@@ -9,12 +9,11 @@ use Rattle.hrana_value.proofs.ItemsLemmas.{OptionalArrayTree-one}
 use Rattle.hrana_value.proofs.DeclineLemmas.{Reads-ok, Reads-declined}
 use Rattle.hrana_value.specs.Base64.{SpellsBytes}
 use Rattle.hrana_value.specs.Members.{HasText, text_at}
-use Rattle.hrana_value.specs.Declines.{rank_of, IsFirst, NoneStands, Reads}
-use Rattle.hrana_value.specs.Tree.{ValueTree, OptionalValuesTree, NoTreeIsTwoValues, NoValueIsDeclined, ValueShaped, null_shaped, integer_shaped, float_shaped, text_shaped, blob_shaped, IntegerTooLarge, ValueStands, IsIntegerText, FitsI64, SpellsI64}
+use Rattle.hrana_value.specs.Declines.{rank_of, IsFirst, Reads}
+use Rattle.hrana_value.specs.Tree.{ValueTree, OptionalValuesTree, NoTreeIsTwoValues, NoValueIsDeclined, ValueShaped, null_shaped, integer_shaped, float_shaped, text_shaped, blob_shaped, IntegerTooLarge, ValueStands, IsIntegerText, FitsI64}
 use Rattle.hrana_value.specs.declared.failures.Decline.{Decline}
 use Rattle.hrana_value.specs.declared.failures.Decline.TheVariants.{Unknown, Describe, Shape, BothSql, BadStep, Range, Float}
-use Rattle.hrana_value.specs.declared.failures.ReadFail.{ReadFail}
-use Rattle.hrana_value.specs.declared.failures.ReadFail.TheVariants.{Declined, NoMemory}
+use Rattle.hrana_value.specs.declared.failures.ReadFail.TheVariants.{Declined}
 use Rattle.hrana_value.specs.declared.value.Value.{Value}
 use Rattle.hrana_value.specs.declared.value.Value.TheVariants.{Null, Integer, Text, Blob}
 

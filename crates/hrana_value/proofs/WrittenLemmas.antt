@@ -1,5 +1,5 @@
 -- What is written as a value is the form of that value.
-use Rattle.std.proofs.Common.{◌≡◌, ℕ, ℤ, List, codes, refl, subst, sym, ap, ◌∙◌, inl}
+use Rattle.std.proofs.Common.{◌≡◌, ℕ, ℤ, List, refl, subst, sym, ap, ◌∙◌, inl}
 use Rattle.std.specs.Prelude.{Result, Ok, Err, IfOk, FitsSigned}
 use Rattle.std.specs.Int.{w64, cast_signed, cast_unsigned}
 use Rattle.std.proofs.lemmas.Int.{to_z-of_z}
@@ -9,7 +9,6 @@ use Rattle.base64.specs.GeneralPurpose.{encode_of, IsBytes}
 use Rattle.serde_json.specs.Data.{Data}
 use Rattle.hrana_value.specs.Tree.{ValueTree}
 use Rattle.hrana_value.specs.Written.{value_data}
-use Rattle.hrana_value.specs.declared.value.Value.{Value}
 use Rattle.hrana_value.specs.declared.value.Value.TheVariants.{Integer, Blob}
 use Rattle.hrana_value.proofs.IntegerLemmas.{SpellsI64-signed_decimal}
 

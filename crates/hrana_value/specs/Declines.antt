@@ -68,3 +68,7 @@ more_of (Err e) (Err f) = Err (earlier_of e f)
 abbrev pub items_of_reading : {A : Type 0} → Result (Vec A Global) ReadFail → Result (List A) ReadFail
 items_of_reading (Ok v) = Ok v.items
 items_of_reading (Err e) = Err e
+
+-- a reading that takes no memory
+abbrev pub TakesNoMemory : {A : Type 0} → Result A ReadFail → Type 0
+TakesNoMemory answer = IfErr answer (λ e. e ≡ NoMemory → ⊥)

@@ -2,7 +2,7 @@
 ghost use Rattle.std.specs.Prelude.{◌≡◌, ◌↔◌, ◌⊎◌, Err, IfOk, IfErr, IsTrue};
 ghost use Rattle.std.specs.Str.Parse.{AllDigits, without_leading_sign};
 ghost use Rattle.hrana_value.specs.Tree.{IsIntegerText, FitsI64, SpellsI64, Int64TextTree, Int64TextStands};
-ghost use Rattle.hrana_value.specs.Declines.{Reads};
+ghost use Rattle.hrana_value.specs.Declines.{Reads, TakesNoMemory};
 ghost use Rattle.hrana_value.specs.Trees.{OptionalTree, OptionalStands};
 ghost use Rattle.serde_json.specs.View.{view};
 
@@ -56,7 +56,8 @@ pub fn int64_of_text(text: &str) -> Result<i64, Decline>
 
 /// Reads an integer of 64 bits from a string.
 pub fn int64_text_of_json(json: &Json) -> Result<i64, ReadFail>
-    ensures { Reads (λ z. Int64TextTree z (view json.now)) (Int64TextStands (view json.now)) result }
+    ensures reads { Reads (λ z. Int64TextTree z (view json.now)) (Int64TextStands (view json.now)) result }
+    ensures memory { TakesNoMemory result }
 {
     let Some(text) = json.as_str() else {
         return Err(ReadFail::Declined(Decline::Shape));
@@ -69,7 +70,8 @@ pub fn int64_text_of_json(json: &Json) -> Result<i64, ReadFail>
 
 /// The same where null stands for none.
 pub fn optional_int64_text_of_json(json: &Json) -> Result<Option<i64>, ReadFail>
-    ensures { Reads (λ o. OptionalTree Int64TextTree o (view json.now)) (OptionalStands Int64TextStands (view json.now)) result }
+    ensures reads { Reads (λ o. OptionalTree Int64TextTree o (view json.now)) (OptionalStands Int64TextStands (view json.now)) result }
+    ensures memory { TakesNoMemory result }
 {
     if json.is_null() {
         return Ok(None);

@@ -3,7 +3,7 @@ ghost use Rattle.std.specs.Prelude.{◌≡◌, ◌↔◌, ◌⊎◌, None, Err, 
 ghost use Rattle.std.specs.Int.{w32};
 ghost use Rattle.serde_json.specs.View.{view};
 ghost use Rattle.hrana_value.specs.Members.{whole_of, FitsUnsigned, Int32Tree, Uint32Tree, Uint64Tree, Int32Stands, Uint32Stands, Uint64Stands};
-ghost use Rattle.hrana_value.specs.Declines.{Reads};
+ghost use Rattle.hrana_value.specs.Declines.{Reads, TakesNoMemory};
 
 use crate::{Decline, ReadFail};
 use serde_json::Value as Json;
@@ -64,7 +64,8 @@ pub fn uint64(json: &Json) -> Result<u64, Decline>
 
 /// The same as a part of a message.
 pub fn int32_of_json(json: &Json) -> Result<i32, ReadFail>
-    ensures { Reads (λ n. Int32Tree n (view json.now)) (Int32Stands (view json.now)) result }
+    ensures reads { Reads (λ n. Int32Tree n (view json.now)) (Int32Stands (view json.now)) result }
+    ensures memory { TakesNoMemory result }
 {
     match int32(json) {
         Ok(number) => Ok(number),
@@ -74,7 +75,8 @@ pub fn int32_of_json(json: &Json) -> Result<i32, ReadFail>
 
 /// The same as a part of a message.
 pub fn uint32_of_json(json: &Json) -> Result<u32, ReadFail>
-    ensures { Reads (λ n. Uint32Tree n (view json.now)) (Uint32Stands (view json.now)) result }
+    ensures reads { Reads (λ n. Uint32Tree n (view json.now)) (Uint32Stands (view json.now)) result }
+    ensures memory { TakesNoMemory result }
 {
     match uint32(json) {
         Ok(number) => Ok(number),
@@ -84,7 +86,8 @@ pub fn uint32_of_json(json: &Json) -> Result<u32, ReadFail>
 
 /// The same as a part of a message.
 pub fn uint64_of_json(json: &Json) -> Result<u64, ReadFail>
-    ensures { Reads (λ n. Uint64Tree n (view json.now)) (Uint64Stands (view json.now)) result }
+    ensures reads { Reads (λ n. Uint64Tree n (view json.now)) (Uint64Stands (view json.now)) result }
+    ensures memory { TakesNoMemory result }
 {
     match uint64(json) {
         Ok(number) => Ok(number),

@@ -1,4 +1,4 @@
-use Rattle.std.proofs.Common.{◌≡◌, Some, codes, sym, ◌∙◌, ap}
+use Rattle.std.proofs.Common.{Some, codes, sym, ◌∙◌, ap}
 use Rattle.serde_json.specs.View.{view}
 use Rattle.hrana_value.specs.Members.{HasText}
 use Rattle.hrana_value.specs.declared.value.Value.TheVariants.{Text}

@@ -1,4 +1,4 @@
-use Rattle.serde_json.specs.View.{items_view, view}
+use Rattle.serde_json.specs.View.{items_view}
 use Rattle.std.proofs.Common.{take, ◌+◌}
 use Rattle.hrana_value.specs.Declines.{items_of_reading}
 use Rattle.hrana_value.specs.Tree.{ValueTree, ValueStands, ValuesTree, ValuesStand}
