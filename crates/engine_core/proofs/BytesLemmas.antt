@@ -1,10 +1,10 @@
 -- Lemmas on what writes do to a sink's bytes.
-use Rattle.std.proofs.Common.{◌≡◌, ℕ, ◌+◌, List, [], ◌∷◌, ◌++◌, Option, None, Some, subst, sym, refl, take, drop, take-append-drop, length, length-drop, arith, ◌-◌, ◌≤◌, append_assoc, append-nil, ◌∙◌, ap}
+use Rattle.std.proofs.Common.{ℕ, ◌+◌, List, [], ◌++◌, Option, subst, sym, take, drop, take-append-drop, length, length-drop, arith, ◌-◌, ◌≤◌, append_assoc, append-nil, ◌∙◌, ap}
 use Rattle.std.proofs.Math.Seq.{take-add}
 use Rattle.std.proofs.lemmas.List.{take_rest}
-use Rattle.std.proofs.KnownBytes.{Appends-trans, Appends-kept, Appends-nil}
+use Rattle.std.proofs.KnownBytes.{Appends-trans, Appends-kept}
 use Rattle.std.specs.Io.KnownBytes.{Appends, Keeps}
-use Rattle.engine_core.specs.Bytes.{IsPrefix, AppendsFront}
+use Rattle.engine_core.specs.Bytes.{AppendsFront}
 
 -- the next m bytes went out after the first n, from the slice `&xs[n..]`
 pub Appends-take_more : (a b c : Option (List ℕ)) (xs : List ℕ) (n m : ℕ) → Appends a b (take n xs) → Appends b c (take m (take (length xs - n) (drop n xs)))

@@ -1,5 +1,5 @@
 -- Entries that calls add one after another.
-use Rattle.std.proofs.Common.{◌≡◌, ℕ, ◌+◌, ◌-◌, ◌^◌, ◌≤◌, min, List, [], ◌∷◌, ◌++◌, Bool, IsTrue, refl, ap, subst, sym, ◌∙◌, arith, append_assoc, append-nil}
+use Rattle.std.proofs.Common.{◌≡◌, ℕ, ◌+◌, List, [], ◌∷◌, ◌++◌, Bool, refl, ap, subst, sym, ◌∙◌, arith, append_assoc, append-nil}
 use Rattle.serial_order.specs.Serial.{Meaning}
 use Rattle.engine_core.specs.Causes.{RoseBy}
 use Rattle.engine_core.specs.Journal.{fault_count, fault_of}

@@ -1,10 +1,9 @@
 -- What the end of the lines says of the whole run.
-use Rattle.std.proofs.Common.{◌≡◌, ℕ, ◌+◌, ◌<◌, ◌≤◌, ◌⊎◌, inl, inr, List, [], ◌∷◌, ◌++◌, Bool, IsTrue, Option, None, Some, subst, sym, refl, ap, ◌∙◌, arith, length, length-append, append-nil, append_assoc, map}
+use Rattle.std.proofs.Common.{◌≡◌, ℕ, ◌≤◌, ◌⊎◌, inl, inr, List, [], ◌∷◌, ◌++◌, Option, None, subst, sym, refl, ap, ◌∙◌, arith, length, length-append, append-nil, append_assoc, map}
 use Rattle.std.specs.Prelude.{IfSome}
-use Rattle.std.specs.Io.KnownBytes.{Keeps}
 use Rattle.std.proofs.KnownBytes.{Keeps-refl, Appends-nil}
 use Rattle.serial_order.specs.Serial.{Meaning, serial, last_database}
-use Rattle.engine_core.specs.Bytes.{IsPrefix, lines_of}
+use Rattle.engine_core.specs.Bytes.{lines_of}
 use Rattle.engine_core.specs.Journal.{entry_of}
 use Rattle.engine_core.specs.declared.engine.Answer.{Answer}
 use Rattle.engine_core.specs.declared.engine.BoundStmt.{BoundStmt}

@@ -1,6 +1,5 @@
 -- What came of an event, from what came of its parts.
-use Rattle.std.proofs.Common.{◌≡◌, ℕ, List, [], ◌∷◌, ◌++◌, Option, None, Some, refl, subst, sym, true, ap, ◌∙◌}
-use Rattle.std.specs.Prelude.{option_to_list}
+use Rattle.std.proofs.Common.{◌≡◌, ℕ, List, [], ◌∷◌, Option, Some, refl, subst, sym, true, ap}
 use Rattle.engine_core.specs.declared.engine.Entry.{Entry}
 use Rattle.engine_core.specs.declared.engine.BoundStmt.{BoundStmt}
 use Rattle.hrana_value.specs.declared.StreamNo.{StreamNo}

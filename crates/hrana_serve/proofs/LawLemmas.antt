@@ -1,10 +1,10 @@
 -- How much events add.
-use Rattle.std.proofs.Common.{◌≡◌, ℕ, ◌+◌, ◌≤◌, List, [], ◌∷◌, ◌++◌, Bool, true, false, Option, None, Some, length, length-append, arith, ap, ◌∙◌, ◌==◌, refl}
+use Rattle.std.proofs.Common.{◌≡◌, ◌+◌, ◌≤◌, List, [], ◌∷◌, ◌++◌, Bool, true, false, Option, None, Some, length, length-append, arith, ap, ◌∙◌, ◌==◌, refl}
 use Rattle.std.specs.Prelude.{MatchBool, IsSomeAnd}
 use Rattle.engine_core.specs.declared.engine.Entry.{Entry}
 use Rattle.hrana_serve.specs.State.{State}
 use Rattle.hrana_serve.specs.Step.{Step, Arrives, PollsFirst, IsIdle, asked_of}
-use Rattle.hrana_serve.specs.Run.{Run, nothing, more}
+use Rattle.hrana_serve.specs.Run.{nothing, more}
 use Rattle.hrana_serve.specs.Laws.{AtMostOneEntryEach, OneEntryARequest}
 use Rattle.hrana_serve.specs.declared.ask.Asked.{Asked}
 use Rattle.hrana_serve.specs.declared.message.ClientMsg.{ClientMsg}

@@ -1,5 +1,5 @@
 -- A text is at most one message.
-use Rattle.std.proofs.Common.{◌≡◌, ℕ, List, ap, sym, ◌∙◌, refl, Option, Some, codes, subst}
+use Rattle.std.proofs.Common.{◌≡◌, ℕ, List, sym, refl, codes, subst}
 use Rattle.serde_json.specs.Data.{Data}
 use Rattle.hrana_value.proofs.TextLemmas.{one, apart}
 use Rattle.hrana_stmt.proofs.StmtLemmas.{StmtTree-one}

@@ -1,14 +1,14 @@
 -- Replies stand in the order of their requests, by induction on the run.
-use Rattle.std.proofs.Common.{◌≡◌, ℕ, ℤ, ◌+◌, List, [], ◌∷◌, ◌++◌, Bool, true, false, Option, None, Some, length, length-append, arith, subst, ap, sym, ◌∙◌, ◌==◌, refl, append_assoc, append-nil}
+use Rattle.std.proofs.Common.{◌≡◌, ℕ, ℤ, List, [], ◌∷◌, ◌++◌, Bool, true, false, Option, None, Some, length, length-append, arith, subst, ap, sym, ◌∙◌, ◌==◌, refl, append_assoc, append-nil}
 use Rattle.std.specs.Prelude.{MatchBool, IsSomeAnd}
 use Rattle.hrana_stmt.specs.declared.statements.Stmt.{Stmt}
 use Rattle.engine_core.specs.declared.engine.Entry.{Entry}
 use Rattle.hrana_serve.specs.State.{State}
 use Rattle.hrana_serve.specs.Messages.{IsMessage}
 use Rattle.hrana_serve.specs.Means.{IsEntryOf, bound, reply_of}
-use Rattle.hrana_serve.specs.Step.{Step, Arrives, ArrivesText, PollsFirst, IsIdle, asked_of}
+use Rattle.hrana_serve.specs.Step.{Step, Arrives, PollsFirst, IsIdle, asked_of}
 use Rattle.hrana_serve.specs.Run.{Run, nothing, more}
-use Rattle.hrana_serve.specs.InOrder.{Asks, none, brought, passed, BringsNone, reply_in, replies, AnsweredInOrder, RepliesInOrder}
+use Rattle.hrana_serve.specs.InOrder.{Asks, none, brought, passed, BringsNone, reply_in, replies, AnsweredInOrder}
 use Rattle.hrana_serve.specs.Laws.{RepliesFollow}
 use Rattle.hrana_serve.specs.declared.ask.Asked.{Asked}
 use Rattle.hrana_serve.specs.declared.message.ClientMsg.{ClientMsg}

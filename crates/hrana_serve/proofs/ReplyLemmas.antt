@@ -1,11 +1,10 @@
 -- No message of the server has a float.
-use Rattle.std.proofs.Common.{◌≡◌, ℤ, Bool, true, false, ◌||◌, refl, pos, negsuc, subst, ap, ◌∙◌}
+use Rattle.std.proofs.Common.{◌≡◌, ℤ, Bool, false, ◌||◌, refl, pos, negsuc, subst, ap, ◌∙◌}
 use Rattle.serde_json.specs.Data.{Data, number}
 use Rattle.serde_json.specs.Find.{of_integer}
 use Rattle.serde_json.specs.Written.{has_float}
 use Rattle.hrana_stmt.proofs.NoFloats.{has_float-result_data, has_float-error_data}
 use Rattle.hrana_stmt.specs.Codes.{error_of}
-use Rattle.hrana_stmt.specs.Written.{result_data}
 use Rattle.hrana_stmt.specs.declared.codes.Code.{Code}
 use Rattle.hrana_stmt.specs.declared.codes.Code.TheVariants.{EngineFault, NoMemory}
 use Rattle.engine_core.specs.declared.engine.Entry.{Entry}

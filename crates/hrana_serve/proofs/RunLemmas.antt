@@ -1,11 +1,10 @@
 -- Events and entries determine a run: its state and its outs.
-use Rattle.std.proofs.Common.{◌≡◌, ℕ, ◌+◌, ◌≤◌, List, [], ◌∷◌, ◌++◌, Bool, true, false, Option, None, Some, length, length-append, arith, subst, ap, sym, ◌∙◌, ◌==◌, refl, append_assoc}
+use Rattle.std.proofs.Common.{◌≡◌, List, [], ◌∷◌, ◌++◌, Bool, true, false, Option, None, Some, length, length-append, arith, subst, ap, sym, ◌∙◌, ◌==◌, refl, append_assoc}
 use Rattle.std.specs.Prelude.{MatchBool, IsSomeAnd}
 use Rattle.engine_core.specs.declared.engine.Entry.{Entry}
-use Rattle.hrana_serve.specs.State.{State, first_state}
-use Rattle.hrana_serve.specs.Messages.{IsMessage}
+use Rattle.hrana_serve.specs.State.{State}
 use Rattle.hrana_serve.specs.Means.{reply_of}
-use Rattle.hrana_serve.specs.Step.{Step, Fits, FitsText, FitsMessage, Arrives, ArrivesText, PollsFirst, IsIdle, asked_of}
+use Rattle.hrana_serve.specs.Step.{Step, Fits, FitsMessage, Arrives, PollsFirst, IsIdle, asked_of}
 use Rattle.hrana_serve.specs.Run.{Run, nothing, more}
 use Rattle.hrana_serve.specs.Laws.{OutsDetermined}
 use Rattle.hrana_serve.specs.declared.ask.Asked.{Asked}

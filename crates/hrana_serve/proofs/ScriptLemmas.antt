@@ -4,7 +4,7 @@ use Rattle.std.specs.Fmt.{decimal}
 use Rattle.std.proofs.lemmas.Fmt.{decimal_digit, parse-decimal, decimal_injective, decimal_is_IsNumeral}
 use Rattle.std.specs.Str.Parse.{ParsesUnsigned, AllDigits}
 use Rattle.std.proofs.lemmas.Str.Parse.{digit_from_value}
-use Rattle.hrana_serve.specs.Script.{IsWritten, IsLineOf, IsOfOne, HasNumbers}
+use Rattle.hrana_serve.specs.Script.{IsWritten, IsLineOf, IsOfOne}
 use Rattle.hrana_serve.specs.State.{State}
 use Rattle.hrana_serve.specs.Step.{Fits}
 use Rattle.hrana_serve.specs.Run.{IsBadLine}

@@ -1,8 +1,8 @@
 -- Statements executed alone, one after another, are a run of the machine of the serial order.
-use Rattle.std.proofs.Common.{◌≡◌, ◌≢◌, ℕ, ◌+◌, Bool, true, false, cond, not, ◌&&◌, ◌||◌, List, [], ◌∷◌, ◌++◌, map, Option, None, Some, IsTrue, refl, sym, ap, ◌∙◌, subst}
+use Rattle.std.proofs.Common.{◌≡◌, ℕ, ◌+◌, Bool, true, false, cond, not, ◌&&◌, ◌||◌, List, [], ◌∷◌, ◌++◌, map, Option, None, Some, IsTrue, refl, sym, ap, ◌∙◌, subst}
 use Rattle.std.specs.Prelude.{MatchBool, ◌==◌}
 use Rattle.serial_order.specs.Serial.{Meaning}
-use Rattle.serial_order.specs.Machine.{State as MachineState, start, Live, IsFree, NoWriter, Step as MachineStep, Run as MachineRun}
+use Rattle.serial_order.specs.Machine.{State as MachineState, start, IsFree, NoWriter, Step as MachineStep, Run as MachineRun}
 use Rattle.engine_core.specs.Engine.{is_read, is_write, is_refusal, IsReadOrWrite}
 use Rattle.engine_core.specs.Journal.{entry_of, broken_of}
 use Rattle.engine_core.specs.declared.engine.Answer.{Answer}

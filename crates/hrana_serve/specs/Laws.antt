@@ -2,7 +2,7 @@
 use Rattle.std.specs.Prelude.{◌≡◌, ◌≤◌, ◌+◌, ℕ, List, Option, length}
 use Rattle.engine_core.specs.declared.engine.Entry.{Entry}
 use Rattle.hrana_serve.specs.State.{State}
-use Rattle.hrana_serve.specs.Script.{IsLineOf, IsOfOne}
+use Rattle.hrana_serve.specs.Script.{IsLineOf}
 use Rattle.hrana_serve.specs.Messages.{IsMessage}
 use Rattle.hrana_serve.specs.Step.{Step}
 use Rattle.hrana_serve.specs.Run.{Run}

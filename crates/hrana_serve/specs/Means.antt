@@ -1,5 +1,5 @@
 -- What a request means: the entry that its poll may add, and the reply that this entry gives.
-use Rattle.std.specs.Prelude.{◌≡◌, Bool, true, false, Option, None, Some, ℤ}
+use Rattle.std.specs.Prelude.{◌≡◌, Bool, true, false, None, ℤ}
 use Rattle.serde_json.specs.Data.{Data, null}
 use Rattle.hrana_stmt.specs.declared.codes.Code.TheVariants.{EngineFault, NoMemory}
 use Rattle.engine_core.specs.declared.engine.BoundStmt.{BoundStmt}

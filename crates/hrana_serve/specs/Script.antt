@@ -1,5 +1,5 @@
 -- The lines of a script and the events that they stand for.
-use Rattle.std.specs.Prelude.{◌≡◌, ◌<◌, ◌^◌, List, ℕ, [], ◌∷◌, ◌++◌, codes, decimal}
+use Rattle.std.specs.Prelude.{◌≡◌, ◌<◌, ◌^◌, List, ℕ, ◌∷◌, ◌++◌, codes, decimal}
 use Rattle.hrana_serve.specs.declared.script.Event.{Event}
 use Rattle.hrana_serve.specs.declared.script.Event.TheVariants.{Opened, Text, Poll, Stop}
 

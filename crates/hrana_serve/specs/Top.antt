@@ -1,10 +1,10 @@
 -- What the top call says.
-use Rattle.std.specs.Prelude.{◌≡◌, ◌+◌, ℕ, List, [], ◌∷◌, ◌++◌, codes, Option, None, IfSome}
-use Rattle.engine_core.specs.Bytes.{IsPrefix, lines_of}
+use Rattle.std.specs.Prelude.{◌≡◌, ℕ, List, [], ◌∷◌, ◌++◌, codes, Option, None}
+use Rattle.engine_core.specs.Bytes.{lines_of}
 use Rattle.engine_core.specs.declared.engine.Entry.{Entry}
 use Rattle.engine_core.specs.declared.status.Status.{Status}
 use Rattle.hrana_serve.specs.State.{State}
-use Rattle.hrana_serve.specs.Run.{Run, ReadsAs, IsBadLine}
+use Rattle.hrana_serve.specs.Run.{Run, ReadsAs}
 use Rattle.hrana_serve.specs.InOrder.{RepliesInOrder}
 use Rattle.hrana_serve.specs.Replay.{IsRunOf, StopsAs, StopsAt, WritesAs}
 use Rattle.hrana_serve.specs.declared.replies.Out.{Out}

@@ -1,4 +1,4 @@
-use Rattle.std.proofs.Common.{◌≡◌, ◌∙◌, ◌++◌, ◌∷◌, sym, ap, codes, arith}
+use Rattle.std.proofs.Common.{arith}
 use Rattle.hrana_serve.proofs.ScriptLemmas.{no_event, decimal_one}
 use Rattle.hrana_serve.proofs.script.event_of_line.Goals as goal
 

@@ -1,4 +1,4 @@
-use Rattle.std.proofs.Common.{◌≡◌, arith, length, true, IsTrue}
+use Rattle.std.proofs.Common.{arith}
 use Rattle.hrana_serve.proofs.TopLemmas.{replay_word}
 use Rattle.hrana_serve.proofs.LineLemmas.{no_bytes}
 use Rattle.hrana_serve.proofs.top.is_replay.Goals as goal
