@@ -1,3 +1,4 @@
 pub mod PieceLemmas
 pub mod PieceSizes
 pub mod PieceLists
+pub mod ClassLemmas

@@ -1,7 +1,9 @@
 -- The one list of pieces of a text, step by step.
 use Rattle.std.proofs.Common.{◌≡◌, ◌<◌, ◌≤◌, ◌+◌, ◌-◌, ℕ, suc, zero, List, [], ◌∷◌, ◌++◌, length, get_or, take, drop, refl, sym, ap, ◌∙◌, subst, arith, append_assoc, take-append-drop}
 use Rattle.std.proofs.lemmas.List.{length-drop, length-append, drop-drop, take_at, drop_at, length-take-le, drop_all}
-use Rattle.sql_text.specs.Pieces.{Token, first_piece, first_token, pieces, pieces_after, joined, EachIsFirst, ArePieces, EachTextHasOneList}
+use Rattle.std.specs.Prelude.{slice_range}
+use Rattle.sql_text.specs.declared.pieces.Piece.{Piece}
+use Rattle.sql_text.specs.Pieces.{Token, token, first_piece, first_token, pieces, pieces_after, joined, EachIsFirst, ArePieces, EachTextHasOneList}
 use Rattle.sql_text.proofs.PieceSizes.{first_piece_within}
 
 pieces_after-drop : (skipped : ℕ) (bs : List ℕ) → pieces_after skipped bs ≡ pieces_after 0 (drop skipped bs)
@@ -56,3 +58,21 @@ only_by (token ∷ tokens) text are =
 
 pub each_text_has_one_list : EachTextHasOneList
 each_text_has_one_list = record { one = λ text. one_by (length text) text (omega arith); only = λ text tokens are. only_by tokens text are }
+
+-- what the scanner's answer at a place says of the text
+pub record PieceStands (text : List ℕ) (at : ℕ) (piece : Piece) : Type 0 where
+  pub later : at < at + piece.size
+  pub within : at + piece.size ≤ length text
+  pub stands : pieces (drop at text) ≡ token piece.kind (slice_range text at (at + piece.size)) ∷ pieces (drop (at + piece.size) text)
+
+pub piece_stands : (text : List ℕ) (at : ℕ) (piece : Piece) → at < length text → piece ≡ first_piece (drop at text) → PieceStands text at piece
+piece_stands text at piece inside is =
+    let nonempty : 0 < length (drop at text) = omega (arith, length-drop at text) in
+    let within = first_piece_within (drop at text) nonempty in
+    let size : ℕ = (first_piece (drop at text)).size in
+    let same : at + size - at ≡ size = omega arith in
+    subst (PieceStands text at) (sym is) (record {
+      later = omega (arith, within.positive);
+      within = omega (arith, within.fits, length-drop at text);
+      stands = pieces-front (drop at text) nonempty ∙ (λ i. token (first_piece (drop at text)).kind (take (sym same i) (drop at text)) ∷ pieces (drop-drop size at text i));
+    })

@@ -140,9 +140,12 @@ pub record Token : Type 0 where
   pub kind : Kind
   pub bytes : List ℕ
 
+abbrev pub token : Kind → List ℕ → Token
+token kind bytes = record { kind = kind; bytes = bytes }
+
 -- the piece at the front of the bytes, with its own bytes
 abbrev pub first_token : List ℕ → Token
-first_token rest = record { kind = (first_piece rest).kind; bytes = take (first_piece rest).size rest }
+first_token rest = token (first_piece rest).kind (take (first_piece rest).size rest)
 
 -- the pieces after the next so many bytes, which are left out
 abbrev pub pieces_after : ℕ → List ℕ → List Token

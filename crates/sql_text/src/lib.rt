@@ -2,6 +2,8 @@
 //! arguments give its parameters.
 #![tactic(auto)]
 
+mod class;
 mod pieces;
 
-pub use pieces::{Kind, Piece};
+pub use class::{Class, Mode, class_of};
+pub use pieces::{Kind, Piece, PlacedPiece, each_text_has_one_list_of_pieces, first_piece, piece_at};

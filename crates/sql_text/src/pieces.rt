@@ -1,6 +1,6 @@
 // The pieces of a text. A byte of 128 or more is part of a character past ASCII.
-ghost use Rattle.std.specs.Prelude.{◌≡◌, ◌≤◌, ◌<◌, length, drop, slice_index};
-ghost use Rattle.sql_text.specs.Pieces.{passes, run_end, comment_end, quote_end, is_blank, is_letter, is_quote, is_prefix, first_piece, blank, line_comment, block_comment, quoted, bracketed, numbered_parameter, named_parameter, word, number, ended, first_of, enclosed_forms, named_forms, EachTextHasOneList};
+ghost use Rattle.std.specs.Prelude.{◌≡◌, ◌≤◌, ◌<◌, length, drop, slice_index, slice_range, ◌∷◌};
+ghost use Rattle.sql_text.specs.Pieces.{passes, run_end, comment_end, quote_end, is_blank, is_letter, is_quote, is_prefix, first_piece, blank, line_comment, block_comment, quoted, bracketed, numbered_parameter, named_parameter, word, number, ended, first_of, enclosed_forms, named_forms, EachTextHasOneList, pieces, token};
 
 /// What a piece is. A sign carries its byte. An unclosed piece is a quote or a block comment with no end.
 #[derive(Clone, Copy, Debug, PartialEq, Eq)]
@@ -20,6 +20,13 @@ pub enum Kind {
 pub struct Piece {
     pub kind: Kind,
     pub size: usize,
+}
+
+/// What a piece of a text is, and where it ends.
+#[derive(Clone, Copy, Debug, PartialEq, Eq)]
+pub struct PlacedPiece {
+    pub kind: Kind,
+    pub end: usize,
 }
 
 /// The bytes that go on a run.
@@ -313,6 +320,20 @@ pub fn first_piece(rest: &[u8]) -> Piece
     Piece {
         kind: Kind::Sign(rest[0]),
         size: 1,
+    }
+}
+
+/// The piece at a place of a text, and where it ends.
+pub fn piece_at(text: &[u8], at: usize) -> PlacedPiece
+    requires { at < length text.now }
+    ensures later { at < result.end }
+    ensures within { result.end ≤ length text.now }
+    ensures stands { pieces (drop at text.now) ≡ token result.kind (slice_range text.now at result.end) ∷ pieces (drop result.end text.now) }
+{
+    let piece = first_piece(&text[at..]);
+    PlacedPiece {
+        kind: piece.kind,
+        end: at + piece.size,
     }
 }
 
