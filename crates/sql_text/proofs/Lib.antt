@@ -2,3 +2,4 @@ pub mod PieceLemmas
 pub mod PieceSizes
 pub mod PieceLists
 pub mod ClassLemmas
+pub mod SpanLemmas

@@ -54,7 +54,7 @@ enum Keyword {
 
 /// What a piece does to a statement.
 #[derive(Clone, Copy)]
-enum Role {
+pub(crate) enum Role {
     Skipped,
     Cuts,
     Stands,
@@ -147,7 +147,7 @@ fn keyword_of(kind: Kind, bytes: &[u8]) -> Keyword
     }
 }
 
-fn role_of(kind: Kind) -> Role
+pub(crate) fn role_of(kind: Kind) -> Role
     ensures { result ≡ role_of kind }
 {
     match kind {
