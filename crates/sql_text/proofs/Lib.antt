@@ -3,3 +3,4 @@ pub mod PieceSizes
 pub mod PieceLists
 pub mod ClassLemmas
 pub mod SpanLemmas
+pub mod ParameterLemmas

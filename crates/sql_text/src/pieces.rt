@@ -218,7 +218,7 @@ fn numbered_parameter(rest: &[u8]) -> Option<Piece>
     }
 }
 
-fn is_prefix(byte: u8) -> bool
+pub(crate) fn is_prefix(byte: u8) -> bool
     ensures { result ≡ is_prefix byte }
 {
     byte == b':' || byte == b'@' || byte == b'$'
