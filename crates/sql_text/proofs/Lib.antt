@@ -4,3 +4,4 @@ pub mod PieceLists
 pub mod ClassLemmas
 pub mod SpanLemmas
 pub mod ParameterLemmas
+pub mod BindLemmas

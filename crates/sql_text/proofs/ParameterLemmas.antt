@@ -7,6 +7,9 @@ use Rattle.std.proofs.lemmas.List.{map_push, length_push, length-map}
 use Rattle.std.proofs.lemmas.Map.Steps.{length-le_from_distinct_below}
 use Rattle.std.proofs.lemmas.Bool.{cond_both, or_parts, or_cases, eqb-true, cond-true, cond-false, ne_eqb}
 use Rattle.std.proofs.lemmas.Bool.Decides.{nat_tests}
+use Rattle.std.specs.Option.{option_or}
+use Rattle.sql_text.specs.Pieces.{is_prefix}
+use Rattle.sql_text.specs.Binding.{number_met}
 use Rattle.sql_text.specs.Parameters.{Numbered, greatest_from, greatest, has_number, is_named, number_of_name, digits_value, number_taken, number_behind, numbers_of, AreApart, with_number, numbered, fits}
 
 pub digits_value_least : (n : ℕ) (ds : List ℕ) → n ≤ digits_value n ds
@@ -72,3 +75,17 @@ pub number_taken-named : (ps : List Numbered) (text : List ℕ) (n : ℕ) → (g
 number_taken-named ps text n other is =
     cond-false (get_or text 0 0 == 63) (number_behind ps (drop 1 text)) (unwrap_or (number_of_name (get_or text 0 0) (drop 1 text) ps) (greatest ps + 1)) (ne_eqb (get_or text 0 0) 63 other)
     ∙ ap (λ o. unwrap_or o (greatest ps + 1)) is
+
+or_small : (o p : Option ℕ) → IfSome o (λ n. n < 257) → IfSome p (λ n. n < 257) → IfSome (option_or o p) (λ n. n < 257)
+or_small None p first second = second
+or_small (Some n) p first second = first
+
+number_met_small : (ps : List Numbered) (name : List ℕ) → All (λ p. p.number < 257) ps → IfSome (number_met ps name) (λ n. n < 257)
+number_met_small ps name all =
+    cond_both (is_prefix (get_or name 0 0)) (number_of_name (get_or name 0 0) (drop 1 name) ps) (option_or (number_of_name 58 name ps) (option_or (number_of_name 64 name ps) (number_of_name 36 name ps))) (λ o. IfSome o (λ n. n < 257))
+    (λ _. number_of_name_small (get_or name 0 0) (drop 1 name) ps all)
+    (λ _. or_small (number_of_name 58 name ps) (option_or (number_of_name 64 name ps) (number_of_name 36 name ps)) (number_of_name_small 58 name ps all) (or_small (number_of_name 64 name ps) (number_of_name 36 name ps) (number_of_name_small 64 name ps all) (number_of_name_small 36 name ps all)))
+
+-- a number that a named argument meets is small
+pub met_small : (ps : List Numbered) (name : List ℕ) (n : ℕ) → All (λ p. p.number < 257) ps → number_met ps name ≡ Some n → n < 257
+met_small ps name n all is = let small = number_met_small ps name all in rw is at small

@@ -9,7 +9,7 @@ use Rattle.sql_text.specs.declared.binding.BindFail.{BindFail}
 use Rattle.sql_text.specs.declared.binding.BindFail.TheVariants as fail
 use Rattle.sql_text.specs.Pieces.{pieces, is_prefix}
 use Rattle.sql_text.specs.Spans.{unclosed_at}
-use Rattle.sql_text.specs.Parameters.{Numbered, parameter_texts, all_fit, all_numbered, greatest, has_number, number_of_name}
+use Rattle.sql_text.specs.Parameters.{Numbered, parameter_texts, all_fit, all_numbered, greatest, has_number, number_of_name, AreApart}
 
 -- A name with its sign meets the parameter of that name. Another is tried behind `:`, then `@`, then `$`.
 abbrev pub number_met : List Numbered → List ℕ → Option ℕ
@@ -95,3 +95,27 @@ AnswersAs (Err fail.BadNumber) expected = expected ≡ Err fail.BadNumber
 AnswersAs (Err fail.Unexpected) expected = expected ≡ Err fail.Unexpected
 AnswersAs (Err (fail.Missing n)) expected = expected ≡ Err (fail.Missing n)
 AnswersAs (Err fail.NoMemory) expected = Unit {0}
+
+-- the parameters read are those of the text, all of whose pieces are closed and numbers fit
+pub record StandsFor (sql : List ℕ) (ps : List Numbered) : Type 0 where
+  pub closed : unclosed_at sql ≡ None
+  pub fit : numbers_fit sql ≡ true
+  pub all : parameters_of sql ≡ ps
+  pub apart : AreApart ps
+
+-- the text is refused in this way, whatever the arguments
+abbrev pub RefusesAs : List ℕ → BindFail → Type 0
+RefusesAs sql (fail.Unclosed at) = unclosed_at sql ≡ Some at
+RefusesAs sql fail.BadNumber = (unclosed_at sql ≡ None) × (numbers_fit sql ≡ false)
+RefusesAs sql fail.Unexpected = ⊥
+RefusesAs sql (fail.Missing n) = ⊥
+RefusesAs sql fail.NoMemory = ⊥
+
+-- what one number is given: the value, or why there is none
+abbrev pub ValueAs : Option Value → Bool → ℕ → Result Value BindFail → Type 0
+ValueAs given occurs n (Ok value) = ((is_none given && occurs) ≡ false) × (value ≡ unwrap_or given Null)
+ValueAs given occurs n (Err (fail.Unclosed at)) = ⊥
+ValueAs given occurs n (Err fail.BadNumber) = ⊥
+ValueAs given occurs n (Err fail.Unexpected) = ⊥
+ValueAs given occurs n (Err (fail.Missing m)) = (m ≡ n) × ((is_none given && occurs) ≡ true)
+ValueAs given occurs n (Err fail.NoMemory) = Unit {0}
