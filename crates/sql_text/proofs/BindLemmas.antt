@@ -1,5 +1,5 @@
 -- Binding, parameter by parameter.
-use Rattle.std.proofs.Common.{◌≡◌, ◌<◌, ◌≤◌, ◌+◌, ◌-◌, ◌*◌, ℕ, suc, zero, Bool, true, false, cond, List, [], ◌∷◌, ◌++◌, map, length, drop, Option, Some, None, Ok, Err, append_assoc, Bor, refl, sym, ap, ◌∙◌, subst, arith}
+use Rattle.std.proofs.Common.{◌≡◌, ◌≤◌, ◌+◌, ◌-◌, ℕ, suc, Bool, true, false, cond, List, [], ◌∷◌, ◌++◌, map, length, drop, Option, Some, None, Ok, Err, append_assoc, Bor, refl, sym, ap, ◌∙◌, arith}
 use Rattle.std.specs.Prelude.{slice_range, slice_index_or, slice_get, is_some, nat_le}
 use Rattle.std.specs.Option.{option_or, option_copied}
 use Rattle.std.specs.List.{IsDistinct, find, list_all}
@@ -12,7 +12,7 @@ use Rattle.std.proofs.lemmas.List.Elements.{All-nil}
 use Rattle.sql_text.specs.declared.parameters.Parameter.{Parameter}
 use Rattle.std.proofs.lemmas.List.{drop_all}
 use Rattle.sql_text.specs.declared.pieces.Kind.{Kind}
-use Rattle.sql_text.specs.Pieces.{Token, token, pieces}
+use Rattle.sql_text.specs.Pieces.{token, pieces}
 use Rattle.sql_text.specs.Parameters.{Numbered, is_parameter, parameter_texts, all_fit, all_numbered, has_number, AreApart, views, greatest}
 use Rattle.sql_text.specs.Binding.{numbers_fit, parameters_of, all_expected, first_missing, is_missing, value_given, last_given, number_met, value_of, values_of, or_missing, or_unclosed, numbers_from, bound_values, bound, ValueAs, AnswersAs, StandsFor, RefusesAs}
 use Rattle.sql_text.proofs.PieceLists.{pieces-nil}

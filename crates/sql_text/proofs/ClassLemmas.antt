@@ -1,14 +1,13 @@
 -- The words of a part as they come, and the parts of the list of pieces.
-use Rattle.std.proofs.Common.{◌≡◌, ◌<◌, ◌≤◌, ◌+◌, ◌-◌, ℕ, suc, zero, Bool, true, false, cond, eqb, List, [], ◌∷◌, map, length, drop, refl, sym, ap, ◌∙◌, arith}
+use Rattle.std.proofs.Common.{◌≡◌, ◌≤◌, ℕ, Bool, true, false, cond, List, [], ◌∷◌, map, length, drop, refl, sym, ap, ◌∙◌}
 use Rattle.std.specs.Prelude.{filter, ◌==◌}
 use Rattle.std.proofs.lemmas.List.{drop_all}
 use Rattle.sql_text.specs.declared.pieces.Kind.{Kind}
 use Rattle.sql_text.specs.declared.pieces.Kind.TheVariants as kind
 use Rattle.sql_text.specs.declared.class.Keyword.{Keyword}
-use Rattle.sql_text.specs.declared.class.Role.{Role}
 use Rattle.sql_text.specs.declared.class.Role.TheVariants as role
 use Rattle.sql_text.specs.Pieces.{Token, token, pieces}
-use Rattle.sql_text.specs.Parts.{is_solid, is_cut, with_front, cut, left, parts}
+use Rattle.sql_text.specs.Parts.{is_solid, with_front, cut, left, parts}
 use Rattle.sql_text.specs.Class.{keyword_of, keyword_of_token, first_part, class_of_words, class_of_text}
 use Rattle.sql_text.specs.Words.{words, words_by, role_of}
 use Rattle.sql_text.proofs.PieceLists.{pieces-nil}

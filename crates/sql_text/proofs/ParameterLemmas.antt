@@ -1,16 +1,15 @@
 -- The numbers of parameters: bounds, and that there is room for each.
-use Rattle.std.proofs.Common.{◌≡◌, ◌<◌, ◌≤◌, ◌+◌, ◌-◌, ◌*◌, ℕ, suc, zero, min, max, Bool, true, false, cond, eqb, List, [], ◌∷◌, ◌++◌, map, length, get_or, drop, Option, Some, None, refl, sym, ap, ◌∙◌, subst, arith, ⊎_elim}
-use Rattle.std.specs.Prelude.{All, IfSome, unwrap_or, nat_eq, nat_lt, ◌==◌, ◌&&◌}
+use Rattle.std.proofs.Common.{◌≡◌, ◌<◌, ◌≤◌, ◌+◌, ◌-◌, ◌*◌, ℕ, max, true, false, eqb, List, [], ◌∷◌, ◌++◌, length, get_or, drop, Option, Some, None, sym, ap, ◌∙◌, subst, arith, ⊎_elim}
+use Rattle.std.specs.Prelude.{All, IfSome, unwrap_or, nat_eq, ◌==◌}
 use Rattle.std.specs.List.{list_any, IsDistinct, AllByRecursion}
 use Rattle.std.proofs.lemmas.List.Elements.{All-head, All-tail, All-push}
 use Rattle.std.proofs.lemmas.List.{map_push, length_push, length-map}
 use Rattle.std.proofs.lemmas.Map.Steps.{length-le_from_distinct_below}
-use Rattle.std.proofs.lemmas.Bool.{cond_both, or_parts, or_cases, eqb-true, cond-true, cond-false, ne_eqb}
-use Rattle.std.proofs.lemmas.Bool.Decides.{nat_tests}
+use Rattle.std.proofs.lemmas.Bool.{cond_both, or_parts, or_cases, eqb-true, cond-false, ne_eqb}
 use Rattle.std.specs.Option.{option_or}
 use Rattle.sql_text.specs.Pieces.{is_prefix}
 use Rattle.sql_text.specs.Binding.{number_met}
-use Rattle.sql_text.specs.Parameters.{Numbered, greatest_from, greatest, has_number, is_named, number_of_name, digits_value, number_taken, number_behind, numbers_of, AreApart, with_number, numbered, fits}
+use Rattle.sql_text.specs.Parameters.{Numbered, greatest_from, greatest, has_number, is_named, number_of_name, digits_value, number_taken, number_behind, numbers_of, AreApart}
 
 pub digits_value_least : (n : ℕ) (ds : List ℕ) → n ≤ digits_value n ds
 digits_value_least n [] = omega arith

@@ -1,7 +1,7 @@
 -- Steps of the scanner, how much a piece takes, and the one list of pieces of a text.
-use Rattle.std.proofs.Common.{◌≡◌, ◌<◌, ◌≤◌, ◌+◌, ◌-◌, ℕ, suc, zero, List, [], ◌∷◌, ◌++◌, length, get_or, take, drop, refl, sym, ap, ◌∙◌, arith, add-zero}
+use Rattle.std.proofs.Common.{◌≡◌, ◌<◌, ◌+◌, ℕ, List, [], ◌∷◌, length, get_or, drop, ap, ◌∙◌, arith, add-zero}
 use Rattle.std.proofs.lemmas.Bool.{cond-true, cond-false, ne_eqb, eq-eqb}
-use Rattle.std.proofs.lemmas.List.{get_or-drop, drop-drop, get_or_past, length-drop}
+use Rattle.std.proofs.lemmas.List.{get_or-drop, drop-drop, length-drop}
 use Rattle.sql_text.specs.Pieces.{quote_end}
 
 quote_end-other : (q at : ℕ) (bs : List ℕ) → 0 < length bs → (get_or bs 0 0 ≡ q → ⊥) → quote_end q at bs ≡ quote_end q (at + 1) (drop 1 bs)

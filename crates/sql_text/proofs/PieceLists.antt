@@ -1,9 +1,9 @@
 -- The one list of pieces of a text, step by step.
-use Rattle.std.proofs.Common.{◌≡◌, ◌<◌, ◌≤◌, ◌+◌, ◌-◌, ℕ, suc, zero, List, [], ◌∷◌, ◌++◌, length, get_or, take, drop, refl, sym, ap, ◌∙◌, subst, arith, append_assoc, take-append-drop}
-use Rattle.std.proofs.lemmas.List.{length-drop, length-append, drop-drop, take_at, drop_at, length-take-le, drop_all}
+use Rattle.std.proofs.Common.{◌≡◌, ◌<◌, ◌≤◌, ◌+◌, ◌-◌, ℕ, suc, zero, List, [], ◌∷◌, ◌++◌, length, take, drop, refl, sym, ap, ◌∙◌, subst, arith, take-append-drop}
+use Rattle.std.proofs.lemmas.List.{length-drop, length-append, drop-drop, drop_at, length-take-le}
 use Rattle.std.specs.Prelude.{slice_range}
 use Rattle.sql_text.specs.declared.pieces.Piece.{Piece}
-use Rattle.sql_text.specs.Pieces.{Token, token, first_piece, first_token, pieces, pieces_after, joined, EachIsFirst, ArePieces, EachTextHasOneList}
+use Rattle.sql_text.specs.Pieces.{Token, token, first_piece, first_token, pieces, pieces_after, joined, ArePieces, EachTextHasOneList}
 use Rattle.sql_text.proofs.PieceSizes.{first_piece_within}
 
 pieces_after-drop : (skipped : ℕ) (bs : List ℕ) → pieces_after skipped bs ≡ pieces_after 0 (drop skipped bs)

@@ -1,15 +1,15 @@
 -- A piece takes at least one byte, and no more than there are.
-use Rattle.std.proofs.Common.{◌≡◌, ◌<◌, ◌≤◌, ◌+◌, ◌-◌, ℕ, suc, zero, Bool, true, false, List, [], ◌∷◌, ◌++◌, Option, None, Some, cond, length, get_or, take, drop, refl, sym, ap, ◌∙◌, arith, inl, inr, ⊎_elim, ltb-true}
+use Rattle.std.proofs.Common.{◌≡◌, ◌<◌, ◌≤◌, ◌+◌, ℕ, suc, Bool, true, false, List, [], ◌∷◌, Option, None, Some, cond, length, get_or, drop, refl, arith, ⊎_elim, ltb-true}
 use Rattle.std.specs.Prelude.{IfSome, unwrap_or, slice_index, nat_lt, ◌==◌, ◌&&◌}
 use Rattle.std.specs.Char.{is_ascii_digit}
-use Rattle.std.proofs.lemmas.Bool.{cond_both, and_parts, eqb-true, cases_lt, leb-true}
+use Rattle.std.proofs.lemmas.Bool.{cond_both, and_parts, eqb-true, cases_lt}
 use Rattle.std.proofs.lemmas.List.{get_or_past, length-drop}
 use Rattle.sql_text.specs.declared.pieces.Kind.{Kind}
 use Rattle.sql_text.specs.declared.pieces.Piece.{Piece}
 use Rattle.sql_text.specs.declared.pieces.Run.{Run}
 use Rattle.sql_text.specs.declared.pieces.Kind.TheVariants as kind
 use Rattle.sql_text.specs.declared.pieces.Run.TheVariants as run
-use Rattle.sql_text.specs.Pieces.{passes, run_end, comment_end, quote_end, blank, line_comment, block_comment, quoted, bracketed, bracket_ended, numbered_parameter, named_parameter, word, number, ended, first_of, enclosed_forms, named_forms, forms, sign, first_piece, is_prefix, is_blank, is_quote, is_letter, sized}
+use Rattle.sql_text.specs.Pieces.{passes, run_end, comment_end, quote_end, blank, line_comment, block_comment, quoted, bracketed, bracket_ended, numbered_parameter, named_parameter, word, number, ended, first_of, sign, first_piece, is_prefix, is_blank, is_quote, is_letter, sized}
 
 -- the piece takes at least one byte and at most so many
 pub record IsWithin (most : ℕ) (piece : Piece) : Type 0 where

@@ -1,5 +1,5 @@
 -- The values that arguments give the parameters of a text.
-use Rattle.std.specs.Prelude.{◌==◌, ◌+◌, ◌-◌, ◌≡◌, ℕ, zero, suc, nat_le, Bool, true, false, not, ◌&&◌, List, [], ◌∷◌, length, map, drop, slice_index, slice_get, Option, Some, None, Result, Ok, Err, is_some, is_none, unwrap_or, if◌then◌else◌}
+use Rattle.std.specs.Prelude.{◌==◌, ◌+◌, ◌-◌, ◌≡◌, ℕ, zero, suc, nat_le, Bool, true, false, ◌&&◌, List, [], ◌∷◌, length, map, drop, slice_index, slice_get, Option, Some, None, Result, Ok, Err, is_some, is_none, unwrap_or, if◌then◌else◌}
 use Rattle.std.specs.Option.{option_or}
 use Rattle.std.specs.List.{list_all, find}
 use Rattle.hrana_value.specs.declared.value.Value.{Value}

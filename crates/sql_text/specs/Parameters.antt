@@ -1,11 +1,11 @@
 -- The parameters of a text and their numbers, off the list of its pieces.
-use Rattle.std.specs.Prelude.{◌==◌, ◌+◌, ◌-◌, ◌*◌, ◌<◌, ℕ, max, nat_lt, nat_eq, Bool, true, false, ◌&&◌, List, [], ◌∷◌, ◌++◌, length, map, drop, slice_index, Option, Some, None, unwrap_or, if◌then◌else◌, All}
+use Rattle.std.specs.Prelude.{◌==◌, ◌+◌, ◌-◌, ◌*◌, ◌<◌, ℕ, max, nat_lt, nat_eq, Bool, true, false, ◌&&◌, List, [], ◌∷◌, ◌++◌, map, drop, slice_index, Option, Some, None, unwrap_or, if◌then◌else◌, All}
 use Rattle.std.specs.List.{list_any, IsDistinct}
 use Rattle.std.specs.Str.{bytes_eq}
 use Rattle.sql_text.specs.declared.pieces.Kind.{Kind}
 use Rattle.sql_text.specs.declared.pieces.Kind.TheVariants as kind
 use Rattle.sql_text.specs.declared.parameters.Parameter.{Parameter}
-use Rattle.sql_text.specs.Pieces.{Token, pieces}
+use Rattle.sql_text.specs.Pieces.{Token}
 
 abbrev pub is_parameter : Kind → Bool
 is_parameter kind.Blank = false

@@ -1,9 +1,8 @@
 -- The parts of a text: its pieces cut at each sign `;`, without blanks and comments, and without the parts in which
 -- nothing else stands. An unclosed piece doesn't count.
-use Rattle.std.specs.Prelude.{◌==◌, ℕ, ◌+◌, Bool, true, false, List, [], ◌∷◌, length, filter, if◌then◌else◌}
+use Rattle.std.specs.Prelude.{◌==◌, Bool, true, false, List, [], ◌∷◌, filter, if◌then◌else◌}
 use Rattle.sql_text.specs.declared.pieces.Kind.{Kind}
 use Rattle.sql_text.specs.declared.pieces.Kind.TheVariants as kind
-use Rattle.sql_text.specs.Pieces.{Token, pieces}
 
 -- neither blank nor comment, and closed
 abbrev pub is_solid : Kind → Bool

@@ -1,7 +1,7 @@
 -- The pieces of a text, over its bytes. Each form says what piece of that form stands at the front of the bytes, if one
 -- does. The piece there is the first form that fits, in the order of the list of forms. A place past the end counts as
 -- the byte 0, which begins no form but a sign.
-use Rattle.std.specs.Prelude.{◌≡◌, ◌==◌, ◌<◌, ◌+◌, ◌-◌, ℕ, suc, zero, Bool, true, false, ◌&&◌, ◌||◌, not, nat_le, nat_lt, List, [], ◌∷◌, length, take, drop, slice_index, Option, None, Some, if◌then◌else◌, unwrap_or}
+use Rattle.std.specs.Prelude.{◌≡◌, ◌==◌, ◌<◌, ◌+◌, ◌-◌, ℕ, suc, zero, Bool, ◌&&◌, ◌||◌, not, nat_le, nat_lt, List, [], ◌∷◌, length, take, drop, slice_index, Option, None, Some, if◌then◌else◌, unwrap_or}
 use Rattle.std.specs.List.{flat_map}
 use Rattle.std.specs.Char.{is_ascii_digit, is_ascii_alphabetic}
 use Rattle.sql_text.specs.declared.pieces.Kind.{Kind}

@@ -8,7 +8,9 @@ ghost use Rattle.sql_text.specs.Spans.{unclosed_at};
 ghost use Rattle.sql_text.specs.Parameters.{views, is_parameter, has_number, AreApart};
 ghost use Rattle.sql_text.specs.Binding.{number_met, last_given, value_given, is_missing, value_of, first_missing, values_of, all_expected, bound_values, parameters_of, numbers_fit, bound, AnswersAs, StandsFor, RefusesAs, ValueAs};
 
-use crate::parameters::{MOST, Parameter, Parameters, greatest, has_number, number_of_name, take_next};
+use crate::parameters::{
+    MOST, Parameter, Parameters, greatest, has_number, number_of_name, take_next,
+};
 use crate::pieces::{Kind, is_prefix, piece_at};
 use crate::spans::is_unclosed;
 use arrayvec::ArrayVec;
@@ -20,9 +22,7 @@ use std::alloc::Global;
 #[derive(Clone, Copy, Debug, PartialEq, Eq)]
 pub enum BindFail {
     /// The quote or comment that starts at this byte has no end.
-    Unclosed {
-        at: usize,
-    },
+    Unclosed { at: usize },
     /// A parameter's number would be 0 or above 256.
     BadNumber,
     /// There are more positional arguments than numbers, or a named argument meets no parameter.

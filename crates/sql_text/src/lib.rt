@@ -7,8 +7,12 @@ mod class;
 mod parameters;
 mod pieces;
 mod spans;
+#[cfg(test)]
+mod tests;
 
 pub use binding::{BindFail, bind};
 pub use class::{Class, Mode, class_of};
-pub use pieces::{Kind, Piece, PlacedPiece, each_text_has_one_list_of_pieces, first_piece, piece_at};
+pub use pieces::{
+    Kind, Piece, PlacedPiece, each_text_has_one_list_of_pieces, first_piece, piece_at,
+};
 pub use spans::{Span, SplitFail, each_piece_is_its_slice, split};

@@ -340,5 +340,4 @@ pub fn piece_at(text: &[u8], at: usize) -> PlacedPiece
 /// Each text is the joining of exactly one list of pieces in which each is the first form that fits at its place.
 pub fn each_text_has_one_list_of_pieces()
     ensures { EachTextHasOneList }
-{
-}
+{}

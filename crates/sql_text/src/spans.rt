@@ -18,9 +18,7 @@ pub struct Span {
 #[derive(Clone, Copy, Debug, PartialEq, Eq)]
 pub enum SplitFail {
     /// The quote or comment that starts at this byte has no end.
-    Unclosed {
-        at: usize,
-    },
+    Unclosed { at: usize },
     NoMemory,
 }
 
@@ -98,5 +96,4 @@ pub fn split(alloc: Global, sql: &str) -> Result<Vec<Span>, SplitFail>
 /// Each piece is the slice of its text from its place to its end.
 pub fn each_piece_is_its_slice()
     ensures { EachPieceIsItsSlice }
-{
-}
+{}

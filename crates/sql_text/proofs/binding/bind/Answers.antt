@@ -1,6 +1,6 @@
 use Rattle.std.proofs.Common.{◌∙◌, sym, ap, subst}
 use Rattle.sql_text.specs.Parameters.{views}
-use Rattle.sql_text.specs.Binding.{StandsFor, RefusesAs, AnswersAs, bound, bound_values}
+use Rattle.sql_text.specs.Binding.{StandsFor, RefusesAs, AnswersAs, bound_values}
 use Rattle.sql_text.proofs.BindLemmas.{bound-read, bound-refused}
 use Rattle.sql_text.proofs.binding.bind.Goals as goal
 

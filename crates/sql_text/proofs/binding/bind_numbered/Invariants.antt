@@ -1,4 +1,4 @@
-use Rattle.std.proofs.Common.{◌≡◌, ◌≤◌, ◌<◌, ◌+◌, ◌-◌, ◌++◌, map}
+use Rattle.std.proofs.Common.{◌≡◌, ◌+◌, ◌-◌, ◌++◌, map}
 use Rattle.std.specs.List.{find}
 use Rattle.sql_text.specs.Parameters.{views}
 use Rattle.sql_text.specs.Binding.{values_of, value_of, first_missing, is_missing, numbers_from}

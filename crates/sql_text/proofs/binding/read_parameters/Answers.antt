@@ -1,5 +1,5 @@
-use Rattle.std.proofs.Common.{◌≡◌, ◌∙◌, ap, None}
-use Rattle.sql_text.specs.Spans.{unclosed_at, first_unclosed}
+use Rattle.std.proofs.Common.{◌∙◌, ap}
+use Rattle.sql_text.specs.Spans.{first_unclosed}
 use Rattle.sql_text.specs.Parameters.{views}
 use Rattle.sql_text.proofs.SpanLemmas.{unclosed_at-start, from_place-end}
 use Rattle.sql_text.proofs.BindLemmas.{apart_none, so_far_start, so_far_end, so_far_refused, texts_from, texts_from-end}
@@ -23,6 +23,7 @@ returns-then-fit-2-clause-ok c =
     }
 
 pub returns-else-fit-2-clause-refused : goal.returns-else-fit-2-clause-refused
-returns-else-fit-2-clause-refused c =
-    (c.loop-at.invariant.unclosed ∙ ap first_unclosed (from_place-end c.args.text.now c.loop-at.at c.loop-at-test.false),
-     so_far_refused c.loop-at.fit (views c.loop-at.parameters.items) c.args.text.now (texts_from c.args.text.now c.loop-at.at) c.if-fit-2.false c.loop-at.invariant.so_far)
+returns-else-fit-2-clause-refused c = (
+  c.loop-at.invariant.unclosed ∙ ap first_unclosed (from_place-end c.args.text.now c.loop-at.at c.loop-at-test.false),
+  so_far_refused c.loop-at.fit (views c.loop-at.parameters.items) c.args.text.now (texts_from c.args.text.now c.loop-at.at) c.if-fit-2.false c.loop-at.invariant.so_far,
+)

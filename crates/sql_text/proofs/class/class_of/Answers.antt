@@ -1,4 +1,4 @@
-use Rattle.std.proofs.Common.{◌≡◌, sym, ◌∙◌, ap, false, drop}
+use Rattle.std.proofs.Common.{◌≡◌, sym, ◌∙◌, ap, false}
 use Rattle.sql_text.specs.Pieces.{pieces}
 use Rattle.sql_text.specs.Class.{class_of_words, class_of_text}
 use Rattle.sql_text.specs.Words.{words}

@@ -2,7 +2,7 @@ use Rattle.std.proofs.Common.{◌≡◌, sym, ◌∙◌, ap, drop, true, ◌∷�
 use Rattle.std.specs.Prelude.{slice_range}
 use Rattle.sql_text.specs.Pieces.{pieces}
 use Rattle.sql_text.specs.Class.{keyword_of}
-use Rattle.sql_text.specs.Words.{words, words_by, role_of}
+use Rattle.sql_text.specs.Words.{words, words_by}
 use Rattle.sql_text.proofs.ClassLemmas.{words-piece, words-end, words_by-cut_begun, words_by-cut_before}
 use Rattle.sql_text.proofs.class.next_word.Goals as goal
 use Rattle.sql_text.proofs.class.next_word.Goals.{After-role_of}

@@ -1,4 +1,4 @@
-use Rattle.std.proofs.Common.{◌≡◌, ◌<◌, ◌∷◌, ◌++◌, [], ◌∙◌, ap, get_or, length, arith, sym, subst}
+use Rattle.std.proofs.Common.{◌≡◌, ◌∷◌, ◌++◌, [], ◌∙◌, ap, get_or, arith, sym, subst}
 use Rattle.std.proofs.lemmas.List.{length-map, map_push, take_rest}
 use Rattle.sql_text.specs.Parameters.{views, view, numbered, AreApart}
 use Rattle.sql_text.proofs.ParameterLemmas.{apart_room, apart_push}

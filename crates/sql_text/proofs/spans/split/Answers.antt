@@ -1,6 +1,6 @@
-use Rattle.std.proofs.Common.{◌≡◌, ◌∙◌, ◌++◌, sym, ap, subst, length, None, [], rules}
-use Rattle.sql_text.specs.Spans.{spans_of, unclosed_at, first_unclosed, AreInOrder, closed_span}
-use Rattle.sql_text.proofs.SpanLemmas.{spans_of-start, unclosed_at-start, spans_of-in_order, spans-end, spans_from, from_place, from_place-end}
+use Rattle.std.proofs.Common.{◌≡◌, ◌∙◌, ◌++◌, sym, ap, subst, length}
+use Rattle.sql_text.specs.Spans.{spans_of, unclosed_at, first_unclosed, AreInOrder}
+use Rattle.sql_text.proofs.SpanLemmas.{spans_of-start, unclosed_at-start, spans_of-in_order, spans-end, spans_from, from_place-end}
 use Rattle.sql_text.proofs.spans.split.Goals as goal
 use Rattle.sql_text.proofs.spans.split.Goals.{In-Ok-close}
 

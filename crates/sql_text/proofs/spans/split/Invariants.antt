@@ -1,4 +1,4 @@
-use Rattle.std.proofs.Common.{◌≡◌, ◌-◌, ◌++◌, length, drop}
+use Rattle.std.proofs.Common.{◌≡◌, ◌-◌, ◌++◌, length}
 use Rattle.sql_text.specs.Spans.{spans_of, unclosed_at, first_unclosed}
 use Rattle.sql_text.proofs.SpanLemmas.{spans_from, from_place}
 use Rattle.sql_text.proofs.spans.split.Given as goal
