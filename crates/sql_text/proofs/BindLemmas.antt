@@ -1,6 +1,6 @@
 -- Binding, parameter by parameter.
-use Rattle.std.proofs.Common.{◌≡◌, ◌≤◌, ◌+◌, ◌-◌, ℕ, suc, Bool, true, false, cond, List, [], ◌∷◌, ◌++◌, map, length, drop, Option, Some, None, Ok, Err, append_assoc, Bor, refl, sym, ap, ◌∙◌, arith}
-use Rattle.std.specs.Prelude.{slice_range, slice_index_or, slice_get, is_some, nat_le}
+use Rattle.std.proofs.Common.{◌≡◌, ◌≤◌, ◌+◌, ◌-◌, ℕ, suc, zero, Bool, true, false, cond, List, [], ◌∷◌, ◌++◌, map, length, drop, Option, Some, None, Ok, Err, append_assoc, Bor, refl, sym, ap, ◌∙◌, arith}
+use Rattle.std.specs.Prelude.{slice_range, slice_index_or, slice_get, is_some, nat_le, Result, IfOk}
 use Rattle.std.specs.Option.{option_or, option_copied}
 use Rattle.std.specs.List.{IsDistinct, find, list_all}
 use Rattle.std.proofs.lemmas.Bool.{cond-true, cond-false, and_from, le-leb}
@@ -10,8 +10,9 @@ use Rattle.sql_text.specs.declared.binding.BindFail.{BindFail}
 use Rattle.sql_text.specs.declared.binding.BindFail.TheVariants as fail
 use Rattle.std.proofs.lemmas.List.Elements.{All-nil}
 use Rattle.sql_text.specs.declared.parameters.Parameter.{Parameter}
-use Rattle.std.proofs.lemmas.List.{drop_all}
+use Rattle.std.proofs.lemmas.List.{drop_all, length-map}
 use Rattle.sql_text.specs.declared.pieces.Kind.{Kind}
+use Rattle.sql_text.specs.Spans.{unclosed_at}
 use Rattle.sql_text.specs.Pieces.{token, pieces}
 use Rattle.sql_text.specs.Parameters.{Numbered, is_parameter, parameter_texts, all_fit, all_numbered, has_number, AreApart, views, greatest}
 use Rattle.sql_text.specs.Binding.{numbers_fit, parameters_of, all_expected, first_missing, is_missing, value_given, last_given, number_met, value_of, values_of, or_missing, or_unclosed, numbers_from, bound_values, bound, ValueAs, AnswersAs, StandsFor, RefusesAs}
@@ -103,3 +104,34 @@ value_given-table ps args named table n place given same is last =
 
 pub expected_from : (ps : List Numbered) (args : List Value) (named : List NamedArg) → length args ≤ greatest ps → true ≡ list_all (λ arg. is_some (number_met ps arg.name)) named → all_expected ps args named ≡ true
 expected_from ps args named few meet = and_from (nat_le (length args) (greatest ps)) (list_all (λ arg. is_some (number_met ps arg.name)) named) (le-leb (length args) (greatest ps) few) (sym meet)
+
+unclosed_ok : (o : Option ℕ) (answer : Result (List Value) BindFail) (values : List Value) → or_unclosed o answer ≡ Ok values → answer ≡ Ok values
+unclosed_ok None answer values is = is
+unclosed_ok (Some at) answer values is = cc is
+
+cond_ok : (test : Bool) (answer : Result (List Value) BindFail) (failure : BindFail) (values : List Value) → cond test answer (Err failure) ≡ Ok values → answer ≡ Ok values
+cond_ok true answer failure values is = is
+cond_ok false answer failure values is = cc is
+
+missing_ok : (o : Option ℕ) (all values : List Value) → or_missing o all ≡ Ok values → all ≡ values
+missing_ok None all values is = cc is
+missing_ok (Some n) all values is = cc is
+
+length-numbers_from : (n count : ℕ) → length (numbers_from n count) ≡ count
+length-numbers_from n zero = refl
+length-numbers_from n (suc count) = ap suc (length-numbers_from (n + 1) count)
+
+-- the answer has one value for each number
+bound_count : (sql : List ℕ) (args : List Value) (named : List NamedArg) (values : List Value) → bound sql args named ≡ Ok values → length values ≡ greatest (parameters_of sql)
+unfolding bound
+bound_count sql args named values is =
+    let ps : List Numbered = parameters_of sql in
+    let closed = unclosed_ok (unclosed_at sql) (cond (numbers_fit sql) (bound_values ps args named) (Err fail.BadNumber)) values is in
+    let fit = cond_ok (numbers_fit sql) (bound_values ps args named) fail.BadNumber values closed in
+    let expected = cond_ok (all_expected ps args named) (or_missing (first_missing ps args named) (values_of ps args named)) fail.Unexpected values fit in
+    let all = missing_ok (first_missing ps args named) (values_of ps args named) values expected in
+    ap length (sym all) ∙ length-map (numbers_from 1 (greatest ps)) (value_of ps args named) ∙ length-numbers_from 1 (greatest ps)
+
+pub count_from : (sql : List ℕ) (args : List Value) (named : List NamedArg) (answer : Result (List Value) BindFail) → AnswersAs answer (bound sql args named) → IfOk answer (λ values. length values ≡ greatest (parameters_of sql))
+count_from sql args named (Ok values) is = bound_count sql args named values is
+count_from sql args named (Err failure) is = tt

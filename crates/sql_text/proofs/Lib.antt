@@ -5,3 +5,5 @@ pub mod ClassLemmas
 pub mod SpanLemmas
 pub mod ParameterLemmas
 pub mod BindLemmas
+pub mod BoundaryLemmas
+pub mod BoundarySpans

@@ -21,7 +21,7 @@ pub record Ends (at count : ℕ) (end : ℕ) : Type 0 where
   pub behind : at < end
   pub near : end ≤ at + count
 
-run_end_least : (r : Run) (at : ℕ) (bs : List ℕ) → at ≤ run_end r at bs
+pub run_end_least : (r : Run) (at : ℕ) (bs : List ℕ) → at ≤ run_end r at bs
 run_end_least r at [] = omega arith
 run_end_least r at (b ∷ bs) =
     let more = run_end_least r (at + 1) bs in
@@ -46,7 +46,7 @@ ends_two_sooner : (at count : ℕ) (end : Option ℕ) → IfSome end (Ends (at +
 ends_two_sooner at count None e = tt
 ends_two_sooner at count (Some end) e = record { behind = omega arith; near = omega arith }
 
-comment_end_within : (at : ℕ) (bs : List ℕ) → IfSome (comment_end at bs) (Ends at (length bs))
+pub comment_end_within : (at : ℕ) (bs : List ℕ) → IfSome (comment_end at bs) (Ends at (length bs))
 comment_end_within at [] = tt
 comment_end_within at (b ∷ bs) =
     let more = comment_end_within (at + 1) bs in
@@ -54,7 +54,7 @@ comment_end_within at (b ∷ bs) =
     (λ test. let within : 0 < length bs = within_from_byte bs 0 47 (omega arith) (eqb-true _ _ (and_parts _ _ test).1) in record { behind = omega arith; near = omega arith })
     (λ _. ends_sooner at (length bs) _ more)
 
-quote_end_within : (q at : ℕ) (bs : List ℕ) → IfSome (quote_end q at bs) (Ends at (length bs))
+pub quote_end_within : (q at : ℕ) (bs : List ℕ) → IfSome (quote_end q at bs) (Ends at (length bs))
 quote_end_within q at [] = tt
 quote_end_within q at (b ∷ []) =
     cond_both _ (Some (at + 1)) None (λ end. IfSome end (Ends at 1)) (λ _. record { behind = omega arith; near = omega arith }) (λ _. tt)

@@ -1,5 +1,6 @@
 -- Where the pieces of a text stand, the spans of its parts, and the first piece that isn't closed.
 use Rattle.std.specs.Prelude.{◌≡◌, ◌<◌, ◌≤◌, ◌+◌, ℕ, Bool, true, false, List, [], ◌∷◌, map, length, Option, Some, None, if◌then◌else◌, slice_range, All}
+use Rattle.std.specs.Str.{IsCharBoundary}
 use Rattle.sql_text.specs.declared.pieces.Kind.{Kind}
 use Rattle.sql_text.specs.declared.pieces.Kind.TheVariants as kind
 use Rattle.sql_text.specs.declared.spans.Span.{Span}
@@ -76,3 +77,7 @@ grown (Some span) start end = record { start = span.start; end = end }
 abbrev pub closed_span : Option Span → List Span
 closed_span None = []
 closed_span (Some span) = span ∷ []
+
+-- a span begins and ends between characters
+abbrev pub StandsBetween : List ℕ → Span → Type 0
+StandsBetween sql span = IsCharBoundary sql span.start × IsCharBoundary sql span.end

@@ -5,7 +5,7 @@ ghost use Rattle.std.specs.Option.{option_or, option_copied};
 ghost use Rattle.std.specs.List.{list_all};
 ghost use Rattle.sql_text.specs.Pieces.{pieces, is_prefix};
 ghost use Rattle.sql_text.specs.Spans.{unclosed_at};
-ghost use Rattle.sql_text.specs.Parameters.{views, is_parameter, has_number, AreApart};
+ghost use Rattle.sql_text.specs.Parameters.{views, is_parameter, has_number, greatest, AreApart};
 ghost use Rattle.sql_text.specs.Binding.{number_met, last_given, value_given, is_missing, value_of, first_missing, values_of, all_expected, bound_values, parameters_of, numbers_fit, bound, AnswersAs, StandsFor, RefusesAs, ValueAs};
 
 use crate::parameters::{
@@ -180,7 +180,8 @@ pub fn bind(
     args: &[Value],
     named: &[NamedArg],
 ) -> Result<Values, BindFail>
-    ensures { AnswersAs result (bound sql.now args.now named.now) }
+    ensures exact { AnswersAs result (bound sql.now args.now named.now) }
+    ensures count { IfOk result (λ values. length values ≡ greatest (parameters_of sql.now)) }
 {
     match read_parameters(sql.as_bytes()) {
         Ok(parameters) => bind_numbered(alloc, parameters.as_slice(), args, named),

@@ -1,6 +1,6 @@
 // The statements of a text, as spans.
-ghost use Rattle.std.specs.Prelude.{◌≡◌, ◌++◌, ℕ, None, Some, length, IfOk, IfErr, OnOk, OnErr};
-ghost use Rattle.sql_text.specs.Spans.{spans_of, unclosed_at, AreInOrder, grown, closed_span, is_unclosed, EachPieceIsItsSlice};
+ghost use Rattle.std.specs.Prelude.{◌≡◌, ◌++◌, ℕ, None, Some, length, All, IfOk, IfErr, OnOk, OnErr};
+ghost use Rattle.sql_text.specs.Spans.{spans_of, unclosed_at, AreInOrder, grown, closed_span, is_unclosed, EachPieceIsItsSlice, StandsBetween};
 
 use crate::class::{Role, role_of};
 use crate::pieces::{Kind, piece_at};
@@ -61,6 +61,7 @@ fn close(spans: &mut Vec<Span>, current: Option<Span>) -> Result<(), NoMemory>
 pub fn split(alloc: Global, sql: &str) -> Result<Vec<Span>, SplitFail>
     ensures spans { IfOk result (λ spans. spans.items ≡ spans_of sql.now) }
     ensures in_order { IfOk result (λ spans. AreInOrder 0 (length sql.now) spans.items) }
+    ensures between { IfOk result (λ spans. All (StandsBetween sql.now) spans.items) }
     ensures closed { IfOk result (λ _. unclosed_at sql.now ≡ None) }
     ensures unclosed { IfErr result (λ fail. (at : ℕ) → fail ≡ SplitFail.Unclosed at → unclosed_at sql.now ≡ Some at) }
 {

@@ -1,5 +1,7 @@
 use Rattle.std.proofs.Common.{◌≡◌, ◌∙◌, ◌++◌, sym, ap, subst, length}
-use Rattle.sql_text.specs.Spans.{spans_of, unclosed_at, first_unclosed, AreInOrder}
+use Rattle.sql_text.specs.Spans.{spans_of, unclosed_at, first_unclosed, AreInOrder, StandsBetween}
+use Rattle.std.specs.Prelude.{All}
+use Rattle.sql_text.proofs.BoundarySpans.{spans_of-between}
 use Rattle.sql_text.proofs.SpanLemmas.{spans_of-start, unclosed_at-start, spans_of-in_order, spans-end, spans_from, from_place-end}
 use Rattle.sql_text.proofs.spans.split.Goals as goal
 use Rattle.sql_text.proofs.spans.split.Goals.{In-Ok-close}
@@ -25,3 +27,6 @@ returns-clause-spans c = whole c
 
 pub returns-clause-in_order : goal.returns-clause-in_order
 returns-clause-in_order c = subst (AreInOrder 0 (length c.args.sql.now)) (sym (whole c)) (spans_of-in_order c.args.sql.now)
+
+pub returns-clause-between : goal.returns-clause-between
+returns-clause-between c = subst (All (StandsBetween c.args.sql.now)) (sym (whole c)) (spans_of-between c.args.sql.now c.utf8.sql)
