@@ -1,0 +1,9 @@
+pub mod PieceLemmas
+pub mod PieceSizes
+pub mod PieceLists
+pub mod ClassLemmas
+pub mod SpanLemmas
+pub mod ParameterLemmas
+pub mod BindLemmas
+pub mod BoundaryLemmas
+pub mod BoundarySpans

@@ -1,0 +1,104 @@
+-- The parameters of a text and their numbers, off the list of its pieces.
+use Rattle.std.specs.Prelude.{◌==◌, ◌+◌, ◌-◌, ◌*◌, ◌<◌, ℕ, max, nat_lt, nat_eq, Bool, true, false, ◌&&◌, List, [], ◌∷◌, ◌++◌, map, drop, slice_index, Option, Some, None, unwrap_or, if◌then◌else◌, All}
+use Rattle.std.specs.List.{list_any, IsDistinct}
+use Rattle.std.specs.Str.{bytes_eq}
+use Rattle.sql_text.specs.declared.pieces.Kind.{Kind}
+use Rattle.sql_text.specs.declared.pieces.Kind.TheVariants as kind
+use Rattle.sql_text.specs.declared.parameters.Parameter.{Parameter}
+use Rattle.sql_text.specs.Pieces.{Token}
+
+abbrev pub is_parameter : Kind → Bool
+is_parameter kind.Blank = false
+is_parameter kind.Comment = false
+is_parameter kind.Quoted = false
+is_parameter kind.Parameter = true
+is_parameter kind.Word = false
+is_parameter kind.Number = false
+is_parameter (kind.Sign b) = false
+is_parameter kind.Unclosed = false
+
+-- the texts of the parameters, in the order of the text
+abbrev pub parameter_texts : List Token → List (List ℕ)
+parameter_texts [] = []
+parameter_texts (t ∷ tokens) = if is_parameter t.kind then t.bytes ∷ parameter_texts tokens else parameter_texts tokens
+
+-- A parameter that came first with its number: the number, the sign before the name, and the name. Behind a `?` there
+-- is no name, but perhaps digits.
+pub record Numbered : Type 0 where
+  pub number : ℕ
+  pub prefix : ℕ
+  pub name : List ℕ
+
+-- the greatest number so far, 0 where there is none
+abbrev pub greatest_from : ℕ → List Numbered → ℕ
+greatest_from n [] = n
+greatest_from n (p ∷ ps) = greatest_from (max n p.number) ps
+
+abbrev pub greatest : List Numbered → ℕ
+greatest ps = greatest_from 0 ps
+
+abbrev pub has_number : List Numbered → ℕ → Bool
+has_number ps n = list_any (λ p. p.number == n) ps
+
+abbrev pub is_named : ℕ → List ℕ → Numbered → Bool
+is_named prefix name p = p.prefix == prefix && bytes_eq p.name name
+
+-- the number of a name behind a sign; names compare byte by byte
+abbrev pub number_of_name : ℕ → List ℕ → List Numbered → Option ℕ
+number_of_name prefix name [] = None
+number_of_name prefix name (p ∷ ps) = if is_named prefix name p then Some p.number else number_of_name prefix name ps
+
+-- the value of decimal digits that follow a number
+abbrev pub digits_value : ℕ → List ℕ → ℕ
+digits_value n [] = n
+digits_value n (d ∷ ds) = digits_value (n * 10 + (d - 48)) ds
+
+-- `?` takes the greatest number so far and one, `?N` takes N
+abbrev pub number_behind : List Numbered → List ℕ → ℕ
+number_behind seen [] = greatest seen + 1
+number_behind seen (d ∷ ds) = digits_value 0 (d ∷ ds)
+
+-- the number that a parameter takes after others: a name that came before keeps its number
+abbrev pub number_taken : List Numbered → List ℕ → ℕ
+number_taken seen text =
+    if slice_index text 0 == 63 then number_behind seen (drop 1 text)
+    else unwrap_or (number_of_name (slice_index text 0) (drop 1 text) seen) (greatest seen + 1)
+
+abbrev pub numbered : ℕ → List ℕ → Numbered
+numbered n text = record { number = n; prefix = slice_index text 0; name = drop 1 text }
+
+-- the parameters so far, and one that has a new number
+abbrev pub with_number : List Numbered → ℕ → List ℕ → List Numbered
+with_number seen n text = if has_number seen n then seen else seen ++ numbered n text ∷ []
+
+abbrev pub with_parameter : List Numbered → List ℕ → List Numbered
+with_parameter seen text = with_number seen (number_taken seen text) text
+
+-- a number from 1 to 256
+abbrev pub fits : ℕ → Bool
+fits n = nat_lt 0 n && nat_lt n 257
+
+-- whether the numbers of the parameters to come all fit
+abbrev pub all_fit : List Numbered → List (List ℕ) → Bool
+all_fit seen [] = true
+all_fit seen (text ∷ texts) = fits (number_taken seen text) && all_fit (with_parameter seen text) texts
+
+-- the parameters, one for each number that occurs
+abbrev pub all_numbered : List Numbered → List (List ℕ) → List Numbered
+all_numbered seen [] = seen
+all_numbered seen (text ∷ texts) = all_numbered (with_parameter seen text) texts
+
+-- a parameter without where its name lies in memory
+abbrev pub view : Parameter → Numbered
+view p = record { number = p.number; prefix = p.prefix; name = p.name.now }
+
+abbrev pub views : List Parameter → List Numbered
+views ps = map view ps
+
+abbrev pub numbers_of : List Numbered → List ℕ
+numbers_of ps = map (λ p. p.number) ps
+
+-- no two have one number, and each number is below 257
+pub record AreApart (ps : List Numbered) : Type 0 where
+  pub distinct : IsDistinct nat_eq (numbers_of ps)
+  pub small : All (λ p. p.number < 257) ps

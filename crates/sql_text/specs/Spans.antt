@@ -1,0 +1,83 @@
+-- Where the pieces of a text stand, the spans of its parts, and the first piece that isn't closed.
+use Rattle.std.specs.Prelude.{◌≡◌, ◌<◌, ◌≤◌, ◌+◌, ℕ, Bool, true, false, List, [], ◌∷◌, map, length, Option, Some, None, if◌then◌else◌, slice_range, All}
+use Rattle.std.specs.Str.{IsCharBoundary}
+use Rattle.sql_text.specs.declared.pieces.Kind.{Kind}
+use Rattle.sql_text.specs.declared.pieces.Kind.TheVariants as kind
+use Rattle.sql_text.specs.declared.spans.Span.{Span}
+use Rattle.sql_text.specs.Pieces.{Token, pieces}
+use Rattle.sql_text.specs.Parts.{parts}
+
+-- a piece, and the place of its first byte
+pub record Placed : Type 0 where
+  pub token : Token
+  pub start : ℕ
+
+-- the pieces with their places, the first of which is given
+abbrev pub placed : ℕ → List Token → List Placed
+placed at [] = []
+placed at (token ∷ tokens) = record { token = token; start = at } ∷ placed (at + length token.bytes) tokens
+
+abbrev pub end_of : Placed → ℕ
+end_of p = p.start + length p.token.bytes
+
+abbrev pub kind_of : Placed → Kind
+kind_of p = p.token.kind
+
+-- the end of the last piece, or the end of what comes before
+abbrev pub last_end : ℕ → List Placed → ℕ
+last_end end [] = end
+last_end end (p ∷ ps) = last_end (end_of p) ps
+
+-- from the first piece of a part to the end of its last
+abbrev pub span_of : List Placed → Span
+span_of [] = record { start = 0; end = 0 }
+span_of (p ∷ ps) = record { start = p.start; end = last_end (end_of p) ps }
+
+abbrev pub placed_pieces : List ℕ → List Placed
+placed_pieces sql = placed 0 (pieces sql)
+
+-- the spans of the parts of a text that are left
+unfoldable pub spans_of : List ℕ → List Span
+spans_of sql = map span_of (parts kind_of (placed_pieces sql))
+
+abbrev pub is_unclosed : Kind → Bool
+is_unclosed kind.Blank = false
+is_unclosed kind.Comment = false
+is_unclosed kind.Quoted = false
+is_unclosed kind.Parameter = false
+is_unclosed kind.Word = false
+is_unclosed kind.Number = false
+is_unclosed (kind.Sign b) = false
+is_unclosed kind.Unclosed = true
+
+-- the place of the first piece that isn't closed
+abbrev pub first_unclosed : List Placed → Option ℕ
+first_unclosed [] = None
+first_unclosed (p ∷ ps) = if is_unclosed p.token.kind then Some p.start else first_unclosed ps
+
+-- where the quote or comment of a text starts that isn't closed
+unfoldable pub unclosed_at : List ℕ → Option ℕ
+unclosed_at sql = first_unclosed (placed_pieces sql)
+
+-- the spans stand from one place to another, in order, apart, each with something in it
+abbrev pub AreInOrder : ℕ → ℕ → List Span → Type 0
+AreInOrder from most [] = from ≤ most
+AreInOrder from most (span ∷ spans) = (from ≤ span.start) × (span.start < span.end) × AreInOrder span.end most spans
+
+-- each piece is the slice of the text at its place
+abbrev pub EachPieceIsItsSlice : Type 0
+EachPieceIsItsSlice = (sql : List ℕ) → All (λ p. slice_range sql p.start (end_of p) ≡ p.token.bytes) (placed_pieces sql)
+
+-- what stood open, made longer by a piece
+abbrev pub grown : Option Span → ℕ → ℕ → Span
+grown None start end = record { start = start; end = end }
+grown (Some span) start end = record { start = span.start; end = end }
+
+-- the span that stood open, if one did
+abbrev pub closed_span : Option Span → List Span
+closed_span None = []
+closed_span (Some span) = span ∷ []
+
+-- a span begins and ends between characters
+abbrev pub StandsBetween : List ℕ → Span → Type 0
+StandsBetween sql span = IsCharBoundary sql span.start × IsCharBoundary sql span.end

@@ -1,0 +1,18 @@
+//! SQL texts: the pieces that a text is cut into, its statements, the class of a statement, and the values that
+//! arguments give its parameters.
+#![tactic(auto)]
+
+mod binding;
+mod class;
+mod parameters;
+mod pieces;
+mod spans;
+#[cfg(test)]
+mod tests;
+
+pub use binding::{BindFail, bind};
+pub use class::{Class, Mode, class_of};
+pub use pieces::{
+    Kind, Piece, PlacedPiece, each_text_has_one_list_of_pieces, first_piece, piece_at,
+};
+pub use spans::{Span, SplitFail, each_piece_is_its_slice, split};
