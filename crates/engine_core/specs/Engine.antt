@@ -7,9 +7,9 @@ use Rattle.hrana_stmt.specs.declared.codes.Code.{Code}
 use Rattle.hrana_stmt.specs.declared.codes.Code.TheVariants as code
 use Rattle.engine_core.specs.declared.engine.Answer.{Answer}
 use Rattle.engine_core.specs.declared.engine.Answer.TheVariants as answer
-use Rattle.engine_core.specs.declared.engine.BoundStmt.{BoundStmt}
-use Rattle.engine_core.specs.declared.engine.Class.{Class}
-use Rattle.engine_core.specs.declared.engine.Class.TheVariants as class
+use Rattle.engine_core.specs.declared.statement.BoundStmt.{BoundStmt}
+use Rattle.sql_text.specs.declared.class.Class.{Class}
+use Rattle.sql_text.specs.declared.class.Class.TheVariants as class
 use Rattle.engine_core.specs.declared.engine.EngineFail.{EngineFail}
 use Rattle.engine_core.specs.declared.engine.EngineFail.TheVariants as fail
 

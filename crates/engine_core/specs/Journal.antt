@@ -1,7 +1,7 @@
 -- The entries as the law of serial order has them, and the faults among them.
 use Rattle.std.specs.Prelude.{ℕ, ◌+◌, List, [], ◌∷◌}
 use Rattle.serial_order.specs.Journal as law
-use Rattle.engine_core.specs.declared.engine.BoundStmt.{BoundStmt}
+use Rattle.engine_core.specs.declared.statement.BoundStmt.{BoundStmt}
 use Rattle.engine_core.specs.declared.engine.Answer.{Answer}
 use Rattle.engine_core.specs.declared.engine.Broken.{Broken}
 use Rattle.engine_core.specs.declared.engine.Broken.TheVariants as broken

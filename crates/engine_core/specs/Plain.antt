@@ -10,7 +10,7 @@ use Rattle.engine_core.specs.declared.plain.Kind.{Kind}
 use Rattle.engine_core.specs.declared.plain.Kind.TheVariants.{Insert, Select, Other}
 use Rattle.engine_core.specs.declared.engine.Answer.{Answer}
 use Rattle.engine_core.specs.declared.engine.Answer.TheVariants.{Gave, Refused}
-use Rattle.engine_core.specs.declared.engine.BoundStmt.{BoundStmt}
+use Rattle.engine_core.specs.declared.statement.BoundStmt.{BoundStmt}
 use Rattle.engine_core.specs.declared.engine.EngineFail.{EngineFail}
 use Rattle.engine_core.specs.declared.engine.EngineFail.TheVariants as fail
 

@@ -2,39 +2,12 @@
 ghost use Rattle.std.specs.Prelude.{◌≡◌, ◌≤◌, ℕ, Bool};
 ghost use Rattle.serial_order.specs.Serial.{Meaning};
 ghost use Rattle.engine_core.specs.Engine.{is_read, is_write, is_refusal, IsReadOrWrite, answer_of, RunsAlone, RefusesByCode, HasEngineCause};
-ghost use Rattle.engine_core.specs.declared.engine.BoundStmt.{BoundStmt};
+ghost use Rattle.engine_core.specs.declared.statement.BoundStmt.{BoundStmt};
 ghost use Rattle.engine_core.specs.declared.engine.Answer.{Answer};
 
+use crate::BoundStmt;
 use hrana_stmt::{Code, StmtResult};
-use hrana_value::{StreamNo, Txt, Values};
-
-/// How a `BEGIN` takes the turn: when it first needs it, or at once.
-#[derive(Clone, Copy, Debug, PartialEq, Eq)]
-pub enum Mode {
-    Deferred,
-    Immediate,
-}
-
-/// What kind of statement a text is.
-#[derive(Clone, Copy, Debug, PartialEq, Eq)]
-pub enum Class {
-    Begin(Mode),
-    Commit,
-    Rollback,
-    Savepoint,
-    Barred,
-    Read,
-    Write,
-    Empty,
-}
-
-/// A statement with a value for each of its parameters.
-#[derive(Debug, Drop)]
-pub struct BoundStmt {
-    pub sql: Txt,
-    pub class: Class,
-    pub values: Values,
-}
+use hrana_value::StreamNo;
 
 /// Why an engine didn't run a statement.
 #[derive(Clone, Copy, Debug, PartialEq, Eq)]

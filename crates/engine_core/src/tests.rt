@@ -1,10 +1,11 @@
 // What no clause says: that calls succeed, printed texts, and the limits, by values from the documents.
-ghost use Rattle.std.specs.Prelude.{IfOk};
+ghost use Rattle.std.specs.Prelude.{IfOk, IsTrue};
 ghost use Rattle.engine_core.specs.Engine.{IsReadOrWrite};
 
 use crate::*;
 use hrana_stmt::Code;
 use hrana_value::{Bytes, StreamNo, Txt, Value, Values};
+use sql_text::class_of;
 use std::alloc::Global;
 use std::test::Fail;
 
@@ -12,20 +13,29 @@ const INSERT: &str = "INSERT INTO t VALUES (?)";
 
 const SELECT: &str = "SELECT a FROM t";
 
-fn class_if(write: bool) -> Class
-    ensures { IsReadOrWrite result }
+fn is_run(class: Class) -> bool
+    ensures { IsTrue result → IsReadOrWrite class }
 {
-    if write { Class::Write } else { Class::Read }
+    match class {
+        Class::Read => true,
+        Class::Write => true,
+        _ => false,
+    }
 }
 
-fn statement(alloc: Global, write: bool, sql: &str, value: Value) -> Result<BoundStmt, NoMemory>
+/// A statement of a text that reads or writes, which is each text of these tests.
+fn statement(alloc: Global, sql: &str, value: Value) -> Result<BoundStmt, NoMemory>
     ensures { IfOk result (λ stmt. IsReadOrWrite stmt.class) }
 {
+    let class = class_of(sql);
+    if !is_run(class) {
+        return Err(NoMemory);
+    }
     let mut values = Values::new(alloc);
     values.push(value)?;
     Ok(BoundStmt {
         sql: Txt::new(alloc, sql)?,
-        class: class_if(write),
+        class,
         values,
     })
 }
@@ -52,21 +62,25 @@ fn plain_keeper_runs_two_statements(rt: HostRuntime) -> Result<(), Fail> {
     let alloc = rt.alloc();
     let mut keeper = PlainKeeper::new(alloc)?;
     for rowid in [1, 2] {
-        let given = keeper.alone(&statement(alloc, true, INSERT, Value::Integer(5))?)?;
+        let given = keeper.alone(&statement(alloc, INSERT, Value::Integer(5))?)?;
         assert_eq!(rt; given.affected, 1);
         assert_eq!(rt; given.last_rowid, Some(rowid));
         assert_eq!(rt; given.cols.as_slice().len(), 0);
         assert_eq!(rt; given.rows.as_slice().len(), 0);
     }
-    for (write, sql) in [(true, SELECT), (false, INSERT), (false, "select a from t")] {
-        let refused = keeper.alone(&statement(alloc, write, sql, Value::Null)?);
+    for sql in [
+        "INSERT INTO t VALUES (1)",
+        "SELECT b FROM t",
+        "select a from t",
+    ] {
+        let refused = keeper.alone(&statement(alloc, sql, Value::Null)?);
         assert_eq!(rt;
             refused.err(),
             Some(EngineFail::Refused(Code::Syntax)),
             "at {sql}"
         );
     }
-    let given = keeper.alone(&statement(alloc, false, SELECT, Value::Null)?)?;
+    let given = keeper.alone(&statement(alloc, SELECT, Value::Null)?)?;
     assert_eq!(rt; given.affected, 0);
     assert_eq!(rt; given.last_rowid, None);
     assert_eq!(rt; given.cols.as_slice().len(), 1);
@@ -81,8 +95,8 @@ fn plain_keeper_runs_two_statements(rt: HostRuntime) -> Result<(), Fail> {
 fn plain_keeper_limits_rows(rt: HostRuntime) -> Result<(), Fail> {
     let alloc = rt.alloc();
     let mut keeper = PlainKeeper::new(alloc)?;
-    let insert = statement(alloc, true, INSERT, Value::Null)?;
-    let select = statement(alloc, false, SELECT, Value::Null)?;
+    let insert = statement(alloc, INSERT, Value::Null)?;
+    let select = statement(alloc, SELECT, Value::Null)?;
     for _ in 0..4096 {
         keeper.alone(&insert)?;
     }
@@ -99,12 +113,12 @@ fn plain_keeper_limits_rows(rt: HostRuntime) -> Result<(), Fail> {
 fn plain_keeper_limits_bytes(rt: HostRuntime) -> Result<(), Fail> {
     let alloc = rt.alloc();
     let mut keeper = PlainKeeper::new(alloc)?;
-    let select = statement(alloc, false, SELECT, Value::Null)?;
+    let select = statement(alloc, SELECT, Value::Null)?;
     // A blob counts 8 and its length, so that one is 1,048,576 bytes.
     let blob = Value::Blob(Bytes::from_vec(vec![in alloc; 0u8; 1048568]?));
-    keeper.alone(&statement(alloc, true, INSERT, blob)?)?;
+    keeper.alone(&statement(alloc, INSERT, blob)?)?;
     assert_eq!(rt; keeper.alone(&select)?.rows.as_slice().len(), 1);
-    keeper.alone(&statement(alloc, true, INSERT, Value::Null)?)?;
+    keeper.alone(&statement(alloc, INSERT, Value::Null)?)?;
     assert_eq!(rt;
         keeper.alone(&select).err(),
         Some(EngineFail::Refused(Code::ResultTooLarge))
@@ -126,7 +140,7 @@ fn listed_calls_fail(rt: HostRuntime) -> Result<(), Fail> {
     }
     assert_eq!(rt; sink.bytes(), b"abab".as_slice());
     let mut engine = Failing::new(alloc, PlainKeeper::new(alloc)?, &[1, 3])?;
-    let insert = statement(alloc, true, INSERT, Value::Null)?;
+    let insert = statement(alloc, INSERT, Value::Null)?;
     assert_eq!(rt; engine.alone(&insert).err(), Some(EngineFail::Fault));
     assert_eq!(rt; engine.alone(&insert)?.last_rowid, Some(1));
     assert_eq!(rt; engine.alone(&insert).err(), Some(EngineFail::Fault));

@@ -6,7 +6,7 @@ use Rattle.engine_core.specs.Journal.{fault_count, fault_of}
 use Rattle.engine_core.specs.declared.engine.Entry.{Entry}
 use Rattle.engine_core.specs.declared.engine.Entry.TheVariants.{Alone, Began, Ran, Denied, Ended, Failed}
 use Rattle.engine_core.specs.declared.engine.Answer.{Answer}
-use Rattle.engine_core.specs.declared.engine.BoundStmt.{BoundStmt}
+use Rattle.engine_core.specs.declared.statement.BoundStmt.{BoundStmt}
 use Rattle.hrana_serve.specs.Stepped.{Adds, Executes}
 
 fault_count-append : (J K : List Entry) → fault_count (J ++ K) ≡ fault_count J + fault_count K

@@ -6,7 +6,7 @@ use Rattle.serial_order.specs.Serial.{Meaning, serial, last_database}
 use Rattle.engine_core.specs.Bytes.{lines_of}
 use Rattle.engine_core.specs.Journal.{entry_of}
 use Rattle.engine_core.specs.declared.engine.Answer.{Answer}
-use Rattle.engine_core.specs.declared.engine.BoundStmt.{BoundStmt}
+use Rattle.engine_core.specs.declared.statement.BoundStmt.{BoundStmt}
 use Rattle.engine_core.specs.declared.engine.Entry.{Entry}
 use Rattle.engine_core.specs.declared.status.Status.{Status}
 use Rattle.engine_core.specs.declared.status.Status.TheVariants as status

@@ -1,4 +1,5 @@
 pub mod AddsLemmas
+pub mod ClassLemmas
 pub mod EndLemmas
 pub mod HubLemmas
 pub mod LawLemmas

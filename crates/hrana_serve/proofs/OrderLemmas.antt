@@ -5,7 +5,7 @@ use Rattle.hrana_stmt.specs.declared.statements.Stmt.{Stmt}
 use Rattle.engine_core.specs.declared.engine.Entry.{Entry}
 use Rattle.hrana_serve.specs.State.{State}
 use Rattle.hrana_serve.specs.Messages.{IsMessage}
-use Rattle.hrana_serve.specs.Means.{IsEntryOf, bound, reply_of}
+use Rattle.hrana_serve.specs.Means.{IsEntryOf, reply_of}
 use Rattle.hrana_serve.specs.Step.{Step, Arrives, PollsFirst, IsIdle, asked_of}
 use Rattle.hrana_serve.specs.Run.{Run, nothing, more}
 use Rattle.hrana_serve.specs.InOrder.{Asks, none, brought, passed, BringsNone, reply_in, replies, AnsweredInOrder}
@@ -36,10 +36,10 @@ replies_more (v ∷ V) (o ∷ outs) event out e =
 
 Exactly : List Asked → List Entry → List Out → Type 0
 Exactly [] [] [] = Unit {0}
-Exactly (a ∷ asks) (e ∷ J) (r ∷ given) = IsEntryOf (bound a) e × (r ≡ reply_of a.request_id e) × Exactly asks J given
+Exactly (a ∷ asks) (e ∷ J) (r ∷ given) = IsEntryOf a e × (r ≡ reply_of a.request_id e) × Exactly asks J given
 Exactly asks J given = ⊥
 
-exactly_more : (asks : List Asked) (J : List Entry) (given : List Out) (a : Asked) (e : Entry) (r : Out) → Exactly asks J given → IsEntryOf (bound a) e → r ≡ reply_of a.request_id e
+exactly_more : (asks : List Asked) (J : List Entry) (given : List Out) (a : Asked) (e : Entry) (r : Out) → Exactly asks J given → IsEntryOf a e → r ≡ reply_of a.request_id e
     → Exactly (asks ++ a ∷ []) (J ++ e ∷ []) (given ++ r ∷ [])
 unfolding Exactly
 exactly_more [] [] [] a e r p i q = (i, q, tt)

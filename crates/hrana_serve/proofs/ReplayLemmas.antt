@@ -6,7 +6,7 @@ use Rattle.std.proofs.KnownBytes.{Keeps-refl, Appends-nil, Appends-trans, Append
 use Rattle.serial_order.specs.Serial.{Meaning}
 use Rattle.engine_core.specs.Bytes.{IsPrefix, AppendsFront}
 use Rattle.engine_core.specs.declared.engine.Answer.{Answer}
-use Rattle.engine_core.specs.declared.engine.BoundStmt.{BoundStmt}
+use Rattle.engine_core.specs.declared.statement.BoundStmt.{BoundStmt}
 use Rattle.engine_core.specs.declared.engine.Entry.{Entry}
 use Rattle.engine_core.specs.declared.status.Status.TheVariants as status
 use Rattle.hrana_serve.specs.State.{State, first_state}

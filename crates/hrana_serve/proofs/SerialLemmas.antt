@@ -7,12 +7,12 @@ use Rattle.engine_core.specs.Engine.{is_read, is_write, is_refusal, IsReadOrWrit
 use Rattle.engine_core.specs.Journal.{entry_of, broken_of}
 use Rattle.engine_core.specs.declared.engine.Answer.{Answer}
 use Rattle.engine_core.specs.declared.engine.Answer.TheVariants.{Gave, Refused}
-use Rattle.engine_core.specs.declared.engine.BoundStmt.{BoundStmt}
-use Rattle.engine_core.specs.declared.engine.Class.{Class}
-use Rattle.engine_core.specs.declared.engine.Class.TheVariants as class
+use Rattle.engine_core.specs.declared.statement.BoundStmt.{BoundStmt}
+use Rattle.sql_text.specs.declared.class.Class.{Class}
+use Rattle.sql_text.specs.declared.class.Class.TheVariants as class
 use Rattle.engine_core.specs.declared.engine.Entry.{Entry}
 use Rattle.engine_core.specs.declared.engine.Entry.TheVariants.{Alone, Began, Ran, Denied, Ended, Failed}
-use Rattle.hrana_serve.specs.Means.{IsEntryOf, bound, class_if, wrote_of}
+use Rattle.hrana_serve.specs.Means.{IsEntryOf, class_if, wrote_of}
 use Rattle.hrana_serve.specs.Run.{Run, nothing, more}
 use Rattle.hrana_serve.specs.State.{State}
 use Rattle.hrana_serve.specs.Step.{Step, PollsFirst, IsIdle}
@@ -47,9 +47,9 @@ able : (write : Bool) → IsReadOrWrite (class_if write)
 able true = tt
 able false = tt
 
-kept_entry : (a : Asked) (e : Entry) → IsEntryOf (bound a) e → IsKept (e ∷ [])
+kept_entry : (a : Asked) (e : Entry) → IsEntryOf a e → IsKept (e ∷ [])
 unfolding IsKept
-kept_entry a (Alone stream stmt answer wrote) i = (i.2, subst (λ (b : BoundStmt). IsReadOrWrite b.class) (sym i.1) (able a.write), tt)
+kept_entry a (Alone stream stmt answer wrote) i = (i.2, subst IsReadOrWrite (sym i.1.class) (able a.write), tt)
 kept_entry a (Failed stream unit cause) i = (i.1, tt)
 kept_entry a (Began unit stream) i = absurd i
 kept_entry a (Ran unit stmt answer) i = absurd i

@@ -3,7 +3,7 @@ use Rattle.std.specs.Prelude.{◌≡◌, ℕ, ℤ, List, [], ◌∷◌, ◌++◌
 use Rattle.hrana_stmt.specs.declared.statements.Stmt.{Stmt}
 use Rattle.engine_core.specs.declared.engine.Entry.{Entry}
 use Rattle.hrana_serve.specs.Messages.{IsMessage}
-use Rattle.hrana_serve.specs.Means.{IsEntryOf, bound, reply_of}
+use Rattle.hrana_serve.specs.Means.{IsEntryOf, reply_of}
 use Rattle.hrana_serve.specs.Step.{asked_of}
 use Rattle.hrana_serve.specs.declared.ask.Asked.{Asked}
 use Rattle.hrana_serve.specs.declared.message.ClientMsg.TheVariants.{Execute}
@@ -44,7 +44,7 @@ replies (event ∷ V) (out ∷ outs) = reply_in event out ++ replies V outs
 abbrev pub AnsweredInOrder : List Asked → List Entry → List Out → Type 0
 AnsweredInOrder asks [] [] = Unit {0}
 AnsweredInOrder (asked ∷ asks) (entry ∷ journal) (reply ∷ given) =
-    IsEntryOf (bound asked) entry × (reply ≡ reply_of asked.request_id entry) × AnsweredInOrder asks journal given
+    IsEntryOf asked entry × (reply ≡ reply_of asked.request_id entry) × AnsweredInOrder asks journal given
 AnsweredInOrder asks journal given = ⊥
 
 pub record RepliesInOrder (V : List Event) (J : List Entry) (outs : List (Option Out)) : Type 0 where

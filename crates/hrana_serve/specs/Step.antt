@@ -10,7 +10,7 @@ use Rattle.hrana_stmt.specs.declared.statements.NamedArg.{NamedArg}
 use Rattle.engine_core.specs.Plain.{insert_text, select_text}
 use Rattle.engine_core.specs.declared.engine.Entry.{Entry}
 use Rattle.hrana_serve.specs.Messages.{IsMessage}
-use Rattle.hrana_serve.specs.Means.{IsEntryOf, bound, reply_of}
+use Rattle.hrana_serve.specs.Means.{IsEntryOf, reply_of}
 use Rattle.hrana_serve.specs.Written.{message_of, hello_data, ok_data, opened_data}
 use Rattle.hrana_serve.specs.State.{State}
 use Rattle.hrana_serve.specs.declared.ask.Asked.{Asked}
@@ -96,7 +96,7 @@ pub record IsIdle (s : State) (added : List Entry) (out : Option Out) (new : Sta
 pub record Answers (asked : Asked) (rest : List Asked) (s : State) (added : List Entry) (out : Option Out) (new : State) : Type 0 where
   pub entry : Entry
   pub one : added ≡ entry ∷ []
-  pub is_entry : IsEntryOf (bound asked) entry
+  pub is_entry : IsEntryOf asked entry
   pub reply : out ≡ Some (reply_of asked.request_id entry)
   pub left : new ≡ record s { asks = rest }
 

@@ -6,7 +6,7 @@ use Rattle.engine_core.specs.Journal.{fault_count}
 use Rattle.engine_core.specs.declared.engine.Entry.{Entry}
 use Rattle.engine_core.specs.declared.engine.Entry.TheVariants.{Alone, Began, Ran, Denied, Ended, Failed}
 use Rattle.engine_core.specs.declared.engine.Answer.{Answer}
-use Rattle.engine_core.specs.declared.engine.BoundStmt.{BoundStmt}
+use Rattle.engine_core.specs.declared.statement.BoundStmt.{BoundStmt}
 use Rattle.hrana_serve.specs.State.{State}
 use Rattle.hrana_serve.specs.Step.{Step, Fits, FitsMessage, FitsText, Arrives, ArrivesText}
 use Rattle.hrana_serve.specs.declared.message.ClientMsg.{ClientMsg}

@@ -3,7 +3,7 @@ ghost use Rattle.std.specs.Prelude.{◌≡◌, ◌∷◌, [], ◌-◌, ◌<◌, 
 ghost use Rattle.engine_core.specs.Engine.{IsReadOrWrite};
 ghost use Rattle.engine_core.specs.Journal.{fault_of};
 ghost use Rattle.engine_core.specs.Causes.{RoseBy};
-ghost use Rattle.hrana_serve.specs.Means.{bound, wrote_of, IsEntryOf};
+ghost use Rattle.hrana_serve.specs.Means.{IsClassed, IsBound, wrote_of, IsEntryFor};
 ghost use Rattle.hrana_serve.specs.Step.{is_one_value, is_no_value, is_no_name, asked_of};
 ghost use Rattle.hrana_serve.specs.Stepped.{Adds, Executes, StepsAs, ArrivesAs, TextAs, places_of};
 ghost use Rattle.hrana_serve.specs.State.{first_state};
@@ -94,7 +94,8 @@ fn ask_of(request_id: i32, stmt: Stmt) -> Option<Asked>
 }
 
 fn bind(asked: Asked) -> BoundStmt
-    ensures bound { result ≡ bound asked }
+    requires { IsClassed asked }
+    ensures bound { IsBound asked result }
     ensures class { IsReadOrWrite result.class }
 {
     let Asked {
@@ -137,7 +138,7 @@ fn alone(stmt: BoundStmt, answer: Answer) -> Entry
 /// Runs a statement of stream 1 alone, and gives the entry that says what came of it.
 fn run_alone<E: Engine>(engine: &mut E, stmt: BoundStmt) -> Entry
     requires { IsReadOrWrite stmt.class }
-    ensures entry { IsEntryOf stmt result }
+    ensures entry { IsEntryFor stmt result }
     ensures run { Executes E.told E.meaning (E.db engine.old) (result ∷ []) (E.db engine.new) }
     ensures cause { RoseBy (fault_of result) (E.faults engine.old) (E.faults engine.new) }
     ensures later { E.faults engine.old ≤ E.faults engine.new }
@@ -170,10 +171,13 @@ pub struct Hub {
 
 impl Model for Hub {
     ghost use Rattle.hrana_serve.specs.State.{State};
+    ghost use Rattle.hrana_serve.specs.Means.{AreClassed};
 
     ghost Value = { State };
 
     ghost view = { λ h. record { known = h.known; greeted = h.greeted; stream = h.stream; asks = h.asks.items } };
+
+    ghost invariant = { λ h. AreClassed h.asks.items };
 }
 
 impl Hub {
