@@ -42,12 +42,13 @@ fn statement(alloc: Global, sql: &str, value: Value) -> Result<BoundStmt, NoMemo
 }
 
 /// An engine with no live transaction.
-struct Idle<E: Engine> {
+#[derive(Drop)]
+struct Idle<E: Engine + Drop> {
     engine: E,
     ghost quiet: { NoneLive (E.live engine) },
 }
 
-impl<E: Engine> Idle<E> {
+impl<E: Engine + Drop> Idle<E> {
     fn alone(&mut self, stmt: &BoundStmt) -> Result<StmtResult, EngineFail>
         requires { IsReadOrWrite stmt.now.class }
     {

@@ -1,15 +1,17 @@
 -- What came of an event, from what came of its parts.
-use Rattle.std.proofs.Common.{◌≡◌, ℕ, Bool, List, [], ◌∷◌, ◌++◌, Option, Some, refl, subst, sym, true, false, ap}
-use Rattle.std.specs.Prelude.{if◌then◌else◌}
+use Rattle.std.proofs.Common.{◌≡◌, ℕ, Bool, List, [], ◌∷◌, ◌++◌, Option, Some, Ok, Err, refl, subst, sym, true, false, ap}
+use Rattle.std.specs.Prelude.{slice_get, IsSomeAnd}
 use Rattle.engine_core.specs.declared.engine.Entry.{Entry}
 use Rattle.engine_core.specs.declared.engine.Entry.TheVariants.{Alone, Began, Ran, Denied, Ended, Failed}
 use Rattle.engine_core.specs.declared.statement.BoundStmt.{BoundStmt}
 use Rattle.hrana_value.specs.declared.StreamNo.{StreamNo}
 use Rattle.hrana_serve.specs.Messages.{IsMessage}
-use Rattle.hrana_serve.specs.Means.{IsEntryOf, IsEntryFor, IsBound, IsClassed, AreClassed, reply_of}
-use Rattle.hrana_serve.specs.Step.{FitsMessage, PollsFirst, Polls}
+use Rattle.hrana_stmt.specs.declared.codes.Code.{Code}
+use Rattle.hrana_serve.specs.Checks.{Ready, IsReady, IsPassed, ready_of}
+use Rattle.hrana_serve.specs.Means.{IsEntryOf, IsEntryFor, reply_of, refusal_of}
+use Rattle.hrana_serve.specs.Step.{FitsMessage, PollsAsked, PollsFirst, Polls}
 use Rattle.hrana_serve.specs.State.{State}
-use Rattle.hrana_serve.specs.Stepped.{ArrivesAs, TextAs, StepsAs}
+use Rattle.hrana_serve.specs.Stepped.{ArrivesAs, TextAs, StepsAs, FirstAs, IsFirstPassed}
 use Rattle.hrana_serve.specs.declared.ask.Asked.{Asked}
 use Rattle.hrana_serve.specs.declared.replies.Out.{Out}
 use Rattle.hrana_serve.specs.declared.script.Event.TheVariants.{Text, Poll}
@@ -30,47 +32,45 @@ step_text s new conn text Refused one came = (refl, came.0, λ fits. came.1 fits
 step_text s new conn text Short one came = (refl, came)
 step_text s new conn text Lost one came = absurd came
 
--- the oldest request that waits is answered
-first : (asks : List Asked) (a : Asked) (rest : List Asked) (s : State) (e : Entry) (out : Option Out) → asks ≡ a ∷ rest → IsEntryOf a e → out ≡ Some (reply_of a.request_id e)
-    → PollsFirst asks s (e ∷ []) out (record s { asks = rest })
-first asks a rest s e out p q r =
-    subst (λ l. PollsFirst l s (e ∷ []) out (record s { asks = rest })) (sym p) (record { entry = e; one = refl; is_entry = q; reply = r; left = refl })
+-- the entry of the statement that passed is one of the request
+entry_of_passed : (ready : Ready) (b : BoundStmt) (e : Entry) → IsReady ready b → IsEntryFor b e → IsEntryOf ready e
+entry_of_passed ready b (Alone stream stmt answer wrote) is q = (q.0, subst (IsReady ready) (sym q.1) is, q.2)
+entry_of_passed ready b (Failed stream unit cause) is q = q
+entry_of_passed ready b (Began unit stream) is q = absurd q
+entry_of_passed ready b (Ran unit stmt answer) is q = absurd q
+entry_of_passed ready b (Denied unit deny) is q = absurd q
+entry_of_passed ready b (Ended unit how) is q = absurd q
 
-polled : (s : State) (stream : ℕ) (a : Asked) (e : Entry) (out : Option Out) (rest : List Asked) → stream ≡ 1 → s.asks ≡ a ∷ rest → IsEntryOf a e
-    → out ≡ Some (reply_of a.request_id e) → Polls s stream (e ∷ []) out (record s { asks = rest })
-polled s stream a e out rest one p q r =
-    subst (λ n. Polls s n (e ∷ []) out (record s { asks = rest })) (sym one) (first s.asks a rest s e out p q r)
+-- the oldest request that waits is answered by its entry
+polled : (s : State) (a : Asked) (rest : List Asked) (ready : Ready) (e : Entry) (out : Option Out) → s.asks ≡ a ∷ rest → ready_of a ≡ Ok ready → IsEntryOf ready e
+    → out ≡ Some (reply_of a e) → PollsFirst s.asks s (e ∷ []) out (record s { asks = rest })
+polled s a rest ready e out p passed q r =
+    subst (λ l. PollsFirst l s (e ∷ []) out (record s { asks = rest })) (sym p)
+    (subst (λ x. PollsAsked x a rest s (e ∷ []) out (record s { asks = rest })) (sym passed) (record { entry = e; one = refl; is_entry = q; reply = r; left = refl }))
 
--- the entry of the statement that is bound is one of the request
-entry_of_bound : (a : Asked) (b : BoundStmt) (e : Entry) → IsBound a b → IsEntryFor b e → IsEntryOf a e
-entry_of_bound a b (Alone stream stmt answer wrote) is q = (q.0, subst (IsBound a) (sym q.1) is, q.2)
-entry_of_bound a b (Failed stream unit cause) is q = q
-entry_of_bound a b (Began unit stream) is q = absurd q
-entry_of_bound a b (Ran unit stmt answer) is q = absurd q
-entry_of_bound a b (Denied unit deny) is q = absurd q
-entry_of_bound a b (Ended unit how) is q = absurd q
+-- a run that had memory for its reply, and one that had none
+pub replied : (s : State) (a : Asked) (rest : List Asked) (b : BoundStmt) (e : Entry) (out : Out) → s.asks ≡ a ∷ rest → IsPassed a b → IsEntryFor b e
+    → out ≡ reply_of a e → FirstAs s (Gave (Some out)) (record s { asks = rest }) (e ∷ [])
+replied s a rest b e out p is q r = polled s a rest is.ready e (Some out) p is.passed (entry_of_passed is.ready b e is.is_ready q) (ap Some r)
 
--- a poll that had memory for its reply, and one that had none
-pub replied : (s : State) (stream : StreamNo) (a : Asked) (b : BoundStmt) (e : Entry) (out : Out) (rest : List Asked) → stream.0 ≡ 1 → s.asks ≡ a ∷ rest
-    → IsBound a b → IsEntryFor b e → out ≡ reply_of a.request_id e → StepsAs s (Poll stream) (Gave (Some out)) (record s { asks = rest }) (e ∷ [])
-replied s stream a b e out rest one p is q r = polled s stream.0 a e (Some out) rest one p (entry_of_bound a b e is q) (ap Some r)
+pub lost : (s : State) (a : Asked) (rest : List Asked) (b : BoundStmt) (e : Entry) → s.asks ≡ a ∷ rest → IsPassed a b → IsEntryFor b e
+    → FirstAs s Lost (record s { asks = rest }) (e ∷ [])
+lost s a rest b e p is q = record { out = Some (reply_of a e); polls = polled s a rest is.ready e _ p is.passed (entry_of_passed is.ready b e is.is_ready q) refl }
 
-pub lost : (s : State) (stream : StreamNo) (a : Asked) (b : BoundStmt) (e : Entry) (rest : List Asked) → stream.0 ≡ 1 → s.asks ≡ a ∷ rest
-    → IsBound a b → IsEntryFor b e → StepsAs s (Poll stream) Lost (record s { asks = rest }) (e ∷ [])
-lost s stream a b e rest one p is q =
-    record { out = Some (reply_of a.request_id e); step = polled s stream.0 a e _ rest one p (entry_of_bound a b e is q) refl }
+-- a request that a check refuses
+pub refused : (s : State) (a : Asked) (rest : List Asked) (code : Code) (out : Out) → s.asks ≡ a ∷ rest → ready_of a ≡ Err code → out ≡ refusal_of a code
+    → FirstAs s (Gave (Some out)) (record s { asks = rest }) []
+refused s a rest code out p refusal r =
+    subst (λ l. PollsFirst l s [] (Some out) (record s { asks = rest })) (sym p)
+    (subst (λ x. PollsAsked x a rest s [] (Some out) (record s { asks = rest })) (sym refusal) (record { none = refl; reply = ap Some r; left = refl }))
 
--- ---- the requests that wait are of their classes
+-- what came of the oldest request is what came of a poll of stream 1
+pub step_first : (s new : State) (stream : StreamNo) (r : Stepped) (added : List Entry) → stream.0 ≡ 1 → FirstAs s r new added → StepsAs s (Poll stream) r new added
+step_first s new stream (Gave out) added one came = subst (λ n. Polls s n added out new) (sym one) came
+step_first s new stream Refused added one came = absurd came
+step_first s new stream Short added one came = came
+step_first s new stream Lost added one came = record { out = came.out; step = subst (λ n. Polls s n added came.out new) (sym one) came.polls }
 
-pub classed-more : (asks : List Asked) (a : Asked) → AreClassed asks → IsClassed a → AreClassed (asks ++ a ∷ [])
-classed-more [] a p q = (q, tt)
-classed-more (b ∷ asks) a p q = (p.0, classed-more asks a p.1 q)
-
--- the first that waits, and the rest
-pub classed-first : (asks rest : List Asked) (a : Asked) → asks ≡ a ∷ rest → AreClassed asks → IsClassed a × AreClassed rest
-classed-first asks rest a e p = subst AreClassed e p
-
--- one request more, where there was memory for it
-pub classed-pushed : (asks new : List Asked) (a : Asked) (ok : Bool) → new ≡ (if ok then asks ++ a ∷ [] else asks) → AreClassed asks → IsClassed a → AreClassed new
-classed-pushed asks new a true e p q = subst AreClassed (sym e) (classed-more asks a p q)
-classed-pushed asks new a false e p q = subst AreClassed (sym e) p
+-- the oldest request that waits is the one that passed
+pub first_passed : (s : State) (a : Asked) (rest : List Asked) (stmt : BoundStmt) → s.asks ≡ a ∷ rest → IsFirstPassed s stmt → IsPassed a stmt
+first_passed s a rest stmt e p = subst (λ l. IsSomeAnd (slice_get l 0) (λ asked. IsPassed asked stmt)) e p

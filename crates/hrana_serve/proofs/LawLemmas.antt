@@ -1,9 +1,11 @@
 -- How much events add.
-use Rattle.std.proofs.Common.{◌≡◌, ◌+◌, ◌≤◌, List, [], ◌∷◌, ◌++◌, Bool, true, false, Option, None, Some, length, length-append, arith, ap, ◌∙◌, ◌==◌, refl}
+use Rattle.std.proofs.Common.{◌≡◌, ◌+◌, ◌≤◌, List, [], ◌∷◌, ◌++◌, Bool, true, false, Option, None, Some, Result, Ok, Err, length, length-append, arith, ap, ◌∙◌, ◌==◌, refl}
 use Rattle.std.specs.Prelude.{MatchBool, IsSomeAnd}
 use Rattle.engine_core.specs.declared.engine.Entry.{Entry}
+use Rattle.hrana_stmt.specs.declared.codes.Code.{Code}
+use Rattle.hrana_serve.specs.Checks.{Ready, ready_of}
 use Rattle.hrana_serve.specs.State.{State}
-use Rattle.hrana_serve.specs.Step.{Step, Arrives, PollsFirst, IsIdle, asked_of}
+use Rattle.hrana_serve.specs.Step.{Step, Arrives, PollsAsked, PollsFirst, IsIdle, asked_of}
 use Rattle.hrana_serve.specs.Run.{nothing, more}
 use Rattle.hrana_serve.specs.Laws.{AtMostOneEntryEach, OneEntryARequest}
 use Rattle.hrana_serve.specs.declared.ask.Asked.{Asked}
@@ -33,9 +35,13 @@ arrival s new added Hello out e a = same_asks s new added e (ap (λ (t : State).
 arrival s new added (OpenStream id stream) out e a = same_asks s new added e (ap (λ (t : State). t.asks) a.3)
 arrival s new added (Execute id stream stmt) out e a = let h = waits s new (asked_of id stmt) a.3 in record { both = omega (arith, ap length e); entries = omega (arith, ap length e) }
 
+asked : (s new : State) (a : Asked) (rest : List Asked) (added : List Entry) (out : Option Out) (r : Result Ready Code) → a ∷ rest ≡ s.asks → PollsAsked r a rest s added out new → Grows s added new
+asked s new a rest added out (Err code) e p = record { both = omega (arith, ap length e, ap length p.none, ap (λ (t : State). length t.asks) p.left); entries = omega (arith, ap length p.none) }
+asked s new a rest added out (Ok ready) e p = record { both = omega (arith, ap length e, ap length p.one, ap (λ (t : State). length t.asks) p.left); entries = omega (arith, ap length p.one) }
+
 first : (s new : State) (asks : List Asked) (added : List Entry) (out : Option Out) → asks ≡ s.asks → PollsFirst asks s added out new → Grows s added new
 first s new [] added out e p = idle s new added out p
-first s new (a ∷ asks) added out e p = record { both = omega (arith, ap length e, ap length p.one, ap (λ (t : State). length t.asks) p.left); entries = omega (arith, ap length p.one) }
+first s new (a ∷ asks) added out e p = asked s new a asks added out (ready_of a) e p
 
 poll : (s new : State) (one : Bool) (added : List Entry) (out : Option Out) → MatchBool one (PollsFirst s.asks s added out new) (IsIdle s added out new) → Grows s added new
 poll s new true added out p = first s new s.asks added out refl p

@@ -1,5 +1,5 @@
 pub mod AddsLemmas
-pub mod ClassLemmas
+pub mod CheckLemmas
 pub mod EndLemmas
 pub mod HubLemmas
 pub mod LawLemmas

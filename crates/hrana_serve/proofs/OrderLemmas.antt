@@ -1,14 +1,16 @@
 -- Replies stand in the order of their requests, by induction on the run.
-use Rattle.std.proofs.Common.{◌≡◌, ℕ, ℤ, List, [], ◌∷◌, ◌++◌, Bool, true, false, Option, None, Some, length, length-append, arith, subst, ap, sym, ◌∙◌, ◌==◌, refl, append_assoc, append-nil}
+use Rattle.std.proofs.Common.{◌≡◌, ℕ, ℤ, List, [], ◌∷◌, ◌++◌, Bool, true, false, Option, None, Some, Result, Ok, Err, length, length-append, arith, subst, ap, sym, ◌∙◌, ◌==◌, refl, append_assoc, append-nil}
 use Rattle.std.specs.Prelude.{MatchBool, IsSomeAnd}
 use Rattle.hrana_stmt.specs.declared.statements.Stmt.{Stmt}
 use Rattle.engine_core.specs.declared.engine.Entry.{Entry}
+use Rattle.hrana_stmt.specs.declared.codes.Code.{Code}
+use Rattle.hrana_serve.specs.Checks.{Ready, ready_of}
 use Rattle.hrana_serve.specs.State.{State}
 use Rattle.hrana_serve.specs.Messages.{IsMessage}
-use Rattle.hrana_serve.specs.Means.{IsEntryOf, reply_of}
-use Rattle.hrana_serve.specs.Step.{Step, Arrives, PollsFirst, IsIdle, asked_of}
+use Rattle.hrana_serve.specs.Means.{IsEntryOf, reply_of, refusal_of}
+use Rattle.hrana_serve.specs.Step.{Step, Arrives, PollsAsked, PollsFirst, IsIdle, asked_of}
 use Rattle.hrana_serve.specs.Run.{Run, nothing, more}
-use Rattle.hrana_serve.specs.InOrder.{Asks, none, brought, passed, BringsNone, reply_in, replies, AnsweredInOrder}
+use Rattle.hrana_serve.specs.InOrder.{Asks, none, brought, passed, BringsNone, reply_in, replies, AnsweredInOrder, waiting, refused, ran}
 use Rattle.hrana_serve.specs.Laws.{RepliesFollow}
 use Rattle.hrana_serve.specs.declared.ask.Asked.{Asked}
 use Rattle.hrana_serve.specs.declared.message.ClientMsg.{ClientMsg}
@@ -34,31 +36,28 @@ replies_more (v ∷ V) (o ∷ outs) event out e =
 
 -- ---- requests that were answered, each by its entry and reply
 
-Exactly : List Asked → List Entry → List Out → Type 0
-Exactly [] [] [] = Unit {0}
-Exactly (a ∷ asks) (e ∷ J) (r ∷ given) = IsEntryOf a e × (r ≡ reply_of a.request_id e) × Exactly asks J given
-Exactly asks J given = ⊥
+data Exactly : List Asked → List Entry → List Out → Type 0 where
+  nothing_yet : Exactly [] [] []
+  then_refused : {asks : List Asked} {J : List Entry} {given : List Out} (a : Asked) (code : Code) → ready_of a ≡ Err code → Exactly asks J given → Exactly (a ∷ asks) J (refusal_of a code ∷ given)
+  then_ran : {asks : List Asked} {J : List Entry} {given : List Out} (a : Asked) (ready : Ready) (e : Entry) → ready_of a ≡ Ok ready → IsEntryOf ready e → Exactly asks J given
+      → Exactly (a ∷ asks) (e ∷ J) (reply_of a e ∷ given)
 
-exactly_more : (asks : List Asked) (J : List Entry) (given : List Out) (a : Asked) (e : Entry) (r : Out) → Exactly asks J given → IsEntryOf a e → r ≡ reply_of a.request_id e
-    → Exactly (asks ++ a ∷ []) (J ++ e ∷ []) (given ++ r ∷ [])
-unfolding Exactly
-exactly_more [] [] [] a e r p i q = (i, q, tt)
-exactly_more [] [] (g ∷ given) a e r p i q = absurd p
-exactly_more [] (x ∷ J) given a e r p i q = absurd p
-exactly_more (b ∷ asks) [] given a e r p i q = absurd p
-exactly_more (b ∷ asks) (x ∷ J) [] a e r p i q = absurd p
-exactly_more (b ∷ asks) (x ∷ J) (g ∷ given) a e r p i q = (p.0, p.1, exactly_more asks J given a e r p.2 i q)
+refused_more : (asks : List Asked) (J : List Entry) (given : List Out) (a : Asked) (code : Code) → Exactly asks J given → ready_of a ≡ Err code → Exactly (asks ++ a ∷ []) J (given ++ refusal_of a code ∷ [])
+refused_more asks J given a code nothing_yet i = then_refused a code i nothing_yet
+refused_more asks J given a code (then_refused {asks = l} {J = K} {given = g} b c is p) i = then_refused b c is (refused_more l K g a code p i)
+refused_more asks J given a code (then_ran {asks = l} {J = K} {given = g} b ready x is q p) i = then_ran b ready x is q (refused_more l K g a code p i)
+
+ran_more : (asks : List Asked) (J : List Entry) (given : List Out) (a : Asked) (ready : Ready) (e : Entry) → Exactly asks J given → ready_of a ≡ Ok ready → IsEntryOf ready e
+    → Exactly (asks ++ a ∷ []) (J ++ e ∷ []) (given ++ reply_of a e ∷ [])
+ran_more asks J given a ready e nothing_yet is i = then_ran a ready e is i nothing_yet
+ran_more asks J given a ready e (then_refused {asks = l} {J = K} {given = g} b c was p) is i = then_refused b c was (ran_more l K g a ready e p is i)
+ran_more asks J given a ready e (then_ran {asks = l} {J = K} {given = g} b other x was q p) is i = then_ran b other x was q (ran_more l K g a ready e p is i)
 
 -- those that wait change nothing of it
-with_waiting : (asks waiting : List Asked) (J : List Entry) (given : List Out) → Exactly asks J given → AnsweredInOrder (asks ++ waiting) J given
-unfolding Exactly
-with_waiting [] [] [] [] p = tt
-with_waiting [] (w ∷ waiting) [] [] p = tt
-with_waiting [] waiting [] (g ∷ given) p = absurd p
-with_waiting [] waiting (x ∷ J) given p = absurd p
-with_waiting (b ∷ asks) waiting [] given p = absurd p
-with_waiting (b ∷ asks) waiting (x ∷ J) [] p = absurd p
-with_waiting (b ∷ asks) waiting (x ∷ J) (g ∷ given) p = (p.0, p.1, with_waiting asks waiting J given p.2)
+with_waiting : (asks still : List Asked) (J : List Entry) (given : List Out) → Exactly asks J given → AnsweredInOrder (asks ++ still) J given
+with_waiting asks still J given nothing_yet = waiting still
+with_waiting asks still J given (then_refused {asks = l} {J = K} {given = g} a code is p) = refused a code is (with_waiting l still K g p)
+with_waiting asks still J given (then_ran {asks = l} {J = K} {given = g} a ready e is q p) = ran a ready e is q (with_waiting l still K g p)
 
 -- ---- what every run keeps: the requests are those that were answered and those that wait
 
@@ -111,18 +110,35 @@ kept_text V J added given s new conn text (OpenStream i st) out is empty a k =
 kept_text V J added given s new conn text (Execute id stream stmt) out is empty a k =
     kept_asked V J added given s new conn text id stream stmt (asked_of id stmt) refl is empty a.3 k
 
-kept_first : (V : List Event) (J added : List Entry) (given : List Out) (s new : State) (stream : Rattle.hrana_value.specs.declared.StreamNo.StreamNo) (asks : List Asked) (out : Option Out) → asks ≡ s.asks → PollsFirst asks s added out new → Kept V J given s
-    → Kept (V ++ Poll stream ∷ []) (J ++ added) (given ++ reply_in (Poll stream) out) new
-kept_first V J added given s new stream [] out e p k = kept_idle V J added given s new (Poll stream) out tt refl p k
-kept_first V J added given s new stream (a ∷ rest) out e p k = record {
+-- the requests that were answered, with one more of those that waited
+split_more : (asks answered : List Asked) (s new : State) (a : Asked) (rest : List Asked) → asks ≡ answered ++ s.asks → a ∷ rest ≡ s.asks → new ≡ record s { asks = rest } → asks ≡ (answered ++ a ∷ []) ++ new.asks
+split_more asks answered s new a rest split e left =
+    split ∙ ap (λ l. answered ++ l) (sym e) ∙ sym (append_assoc answered (a ∷ []) rest) ∙ ap (λ l. (answered ++ a ∷ []) ++ l) (sym (ap (λ (t : State). t.asks) left))
+
+kept_request : (V : List Event) (J added : List Entry) (given : List Out) (s new : State) (stream : Rattle.hrana_value.specs.declared.StreamNo.StreamNo) (a : Asked) (rest : List Asked) (out : Option Out) (r : Result Ready Code) → ready_of a ≡ r
+    → a ∷ rest ≡ s.asks → PollsAsked r a rest s added out new → Kept V J given s → Kept (V ++ Poll stream ∷ []) (J ++ added) (given ++ reply_in (Poll stream) out) new
+kept_request V J added given s new stream a rest out (Err code) is e p k = record {
   asks = k.asks;
   answered = k.answered ++ a ∷ [];
   arrived = passed k.arrived (Poll stream) tt;
-  split = k.split ∙ ap (λ l. k.answered ++ l) (sym e) ∙ sym (append_assoc k.answered (a ∷ []) rest) ∙ ap (λ l. (k.answered ++ a ∷ []) ++ l) (sym (ap (λ (t : State). t.asks) p.left));
+  split = split_more k.asks k.answered s new a rest k.split e p.left;
+  exact = subst (λ l. Exactly (k.answered ++ a ∷ []) l (given ++ reply_in (Poll stream) out)) (sym (ap (λ l. J ++ l) p.none ∙ append-nil J))
+      (subst (λ o. Exactly (k.answered ++ a ∷ []) J (given ++ reply_in (Poll stream) o)) (sym p.reply) (refused_more k.answered J given a code k.exact is));
+}
+kept_request V J added given s new stream a rest out (Ok ready) is e p k = record {
+  asks = k.asks;
+  answered = k.answered ++ a ∷ [];
+  arrived = passed k.arrived (Poll stream) tt;
+  split = split_more k.asks k.answered s new a rest k.split e p.left;
   exact = subst (λ l. Exactly (k.answered ++ a ∷ []) (J ++ l) (given ++ reply_in (Poll stream) out)) (sym p.one)
       (subst (λ o. Exactly (k.answered ++ a ∷ []) (J ++ p.entry ∷ []) (given ++ reply_in (Poll stream) o)) (sym p.reply)
-      (exactly_more k.answered J given a p.entry (reply_of a.request_id p.entry) k.exact p.is_entry refl));
+      (ran_more k.answered J given a ready p.entry k.exact is p.is_entry));
 }
+
+kept_first : (V : List Event) (J added : List Entry) (given : List Out) (s new : State) (stream : Rattle.hrana_value.specs.declared.StreamNo.StreamNo) (asks : List Asked) (out : Option Out) → asks ≡ s.asks → PollsFirst asks s added out new → Kept V J given s
+    → Kept (V ++ Poll stream ∷ []) (J ++ added) (given ++ reply_in (Poll stream) out) new
+kept_first V J added given s new stream [] out e p k = kept_idle V J added given s new (Poll stream) out tt refl p k
+kept_first V J added given s new stream (a ∷ rest) out e p k = kept_request V J added given s new stream a rest out (ready_of a) refl e p k
 
 kept_poll : (V : List Event) (J added : List Entry) (given : List Out) (s new : State) (stream : Rattle.hrana_value.specs.declared.StreamNo.StreamNo) (one : Bool) (out : Option Out)
     → MatchBool one (PollsFirst s.asks s added out new) (IsIdle s added out new) → Kept V J given s → Kept (V ++ Poll stream ∷ []) (J ++ added) (given ++ reply_in (Poll stream) out) new
@@ -137,8 +153,7 @@ kept_event V J added given s new (Poll n) out st k = kept_poll V J added given s
 kept_event V J added given s new Stop out st k = kept_nothing V J added given [] s new Stop tt st.none refl (asks_of s new st.same) k
 
 kept_run : (V : List Event) (J : List Entry) (outs : List (Option Out)) (s : State) → Run V J outs s → Kept V J (replies V outs) s
-unfolding Exactly
-kept_run V J outs s nothing = record { asks = []; answered = []; arrived = none; split = refl; exact = tt }
+kept_run V J outs s nothing = record { asks = []; answered = []; arrived = none; split = refl; exact = nothing_yet }
 kept_run V J outs s (more {V = W} {J = K} {outs = o} {s = t} run event added out new step) =
     subst (λ l. Kept (W ++ event ∷ []) (K ++ added) l new) (sym (replies_more W o event out (same_length W K o t run)))
     (kept_event W K added (replies W o) t new event out step (kept_run W K o t run))

@@ -12,7 +12,8 @@ use Rattle.engine_core.specs.declared.engine.Entry.TheVariants.{Alone, Began, Ra
 use Rattle.engine_core.specs.declared.engine.Answer.TheVariants.{Gave, Refused}
 use Rattle.engine_core.specs.declared.engine.Broken.TheVariants as broken
 use Rattle.hrana_serve.specs.Written.{ok_data, failed_data, opened_data, executed_data, message_of}
-use Rattle.hrana_serve.specs.Means.{reply_data, reply_of}
+use Rattle.hrana_serve.specs.Means.{reply_data, reply_of, shown}
+use Rattle.hrana_serve.specs.declared.ask.Asked.{Asked}
 use Rattle.hrana_serve.specs.declared.replies.Out.{Out}
 
 neither : (a b : Bool) → a ≡ false → b ≡ false → (a || b) ≡ false
@@ -31,16 +32,19 @@ of_failed id code = neither _ _ (has_float-error_data (error_of code)) (neither 
 pub of_opened : (id : ℤ) → has_float (ok_data id opened_data) ≡ false
 of_opened id = of_ok id opened_data refl
 
-of_reply : (id : ℤ) (e : Entry) → has_float (reply_data id e) ≡ false
-of_reply id (Alone stream stmt (Gave given) wrote) = of_ok id (executed_data given) (neither _ _ (has_float-result_data given) refl)
-of_reply id (Alone stream stmt (Refused code) wrote) = of_failed id code
-of_reply id (Failed stream unit broken.Fault) = of_failed id EngineFault
-of_reply id (Failed stream unit broken.NoMemory) = of_failed id NoMemory
-of_reply id (Began unit stream) = refl
-of_reply id (Ran unit stmt answer) = refl
-of_reply id (Denied unit deny) = refl
-of_reply id (Ended unit how) = refl
+pub of_refusal : (id : ℤ) (code : Code) → has_float (failed_data id code) ≡ false
+of_refusal id code = of_failed id code
+
+of_reply : (a : Asked) (e : Entry) → has_float (reply_data a e) ≡ false
+of_reply a (Alone stream stmt (Gave given) wrote) = of_ok a.request_id (executed_data (shown a.want_rows given)) (neither _ _ (has_float-result_data (shown a.want_rows given)) refl)
+of_reply a (Alone stream stmt (Refused code) wrote) = of_failed a.request_id code
+of_reply a (Failed stream unit broken.Fault) = of_failed a.request_id EngineFault
+of_reply a (Failed stream unit broken.NoMemory) = of_failed a.request_id NoMemory
+of_reply a (Began unit stream) = refl
+of_reply a (Ran unit stmt answer) = refl
+of_reply a (Denied unit deny) = refl
+of_reply a (Ended unit how) = refl
 
 -- the message of a reply
-pub reply_is : (d : Data) (id : ℤ) (e : Entry) → d ≡ reply_data id e → (out : Out) → (has_float d ≡ false → out ≡ message_of d) → out ≡ reply_of id e
-reply_is d id e p out h = subst (λ x. out ≡ message_of x) p (h (ap has_float p ∙ of_reply id e))
+pub reply_is : (d : Data) (a : Asked) (e : Entry) → d ≡ reply_data a e → (out : Out) → (has_float d ≡ false → out ≡ message_of d) → out ≡ reply_of a e
+reply_is d a e p out h = subst (λ x. out ≡ message_of x) p (h (ap has_float p ∙ of_reply a e))

@@ -1,10 +1,12 @@
 -- Events and entries determine a run: its state and its outs.
-use Rattle.std.proofs.Common.{◌≡◌, List, [], ◌∷◌, ◌++◌, Bool, true, false, Option, None, Some, length, length-append, arith, subst, ap, sym, ◌∙◌, ◌==◌, refl, append_assoc}
+use Rattle.std.proofs.Common.{◌≡◌, List, [], ◌∷◌, ◌++◌, Bool, true, false, Option, None, Some, Result, Ok, Err, length, length-append, arith, subst, ap, sym, ◌∙◌, ◌==◌, refl, append_assoc}
 use Rattle.std.specs.Prelude.{MatchBool, IsSomeAnd}
 use Rattle.engine_core.specs.declared.engine.Entry.{Entry}
 use Rattle.hrana_serve.specs.State.{State}
+use Rattle.hrana_stmt.specs.declared.codes.Code.{Code}
+use Rattle.hrana_serve.specs.Checks.{Ready, ready_of}
 use Rattle.hrana_serve.specs.Means.{reply_of}
-use Rattle.hrana_serve.specs.Step.{Step, Fits, FitsMessage, Arrives, PollsFirst, IsIdle, asked_of}
+use Rattle.hrana_serve.specs.Step.{Step, Fits, FitsMessage, Arrives, PollsAsked, PollsFirst, IsIdle, asked_of}
 use Rattle.hrana_serve.specs.Run.{Run, nothing, more}
 use Rattle.hrana_serve.specs.Laws.{OutsDetermined}
 use Rattle.hrana_serve.specs.declared.ask.Asked.{Asked}
@@ -56,13 +58,18 @@ same_arrival s Hello added added' out out' new new' e e' p q = silent _ _ _ _ _ 
 same_arrival s (OpenStream id stream) added added' out out' new new' e e' p q = silent _ _ _ _ _ _ _ _ e e' p.2 q.2 p.3 q.3
 same_arrival s (Execute id stream stmt) added added' out out' new new' e e' p q = silent _ _ _ _ _ _ _ _ e e' p.2 q.2 (same_waits s new new' (asked_of id stmt) p.3 q.3) refl
 
-same_first : (asks : List Asked) (s : State) (added added' : List Entry) (out out' : Option Out) (new new' : State) → PollsFirst asks s added out new → PollsFirst asks s added' out' new' → SameStep added added' out out' new new'
-same_first [] s added added' out out' new new' p q = idle s _ _ _ _ _ _ p q
-same_first (asked ∷ rest) s added added' out out' new new' p q = record {
+same_asked : (r : Result Ready Code) (asked : Asked) (rest : List Asked) (s : State) (added added' : List Entry) (out out' : Option Out) (new new' : State)
+    → PollsAsked r asked rest s added out new → PollsAsked r asked rest s added' out' new' → SameStep added added' out out' new new'
+same_asked (Err code) asked rest s added added' out out' new new' p q = silent _ _ _ _ _ _ _ _ p.none q.none p.reply q.reply p.left q.left
+same_asked (Ok ready) asked rest s added added' out out' new new' p q = record {
   state = p.left ∙ sym q.left;
   count = ap length p.one ∙ sym (ap length q.one);
-  outs = λ e. let same : p.entry ≡ q.entry = (snoc_one [] [] p.entry q.entry (sym p.one ∙ e ∙ q.one)).1 in p.reply ∙ ap (λ x. Some (reply_of asked.request_id x)) same ∙ sym q.reply;
+  outs = λ e. let same : p.entry ≡ q.entry = (snoc_one [] [] p.entry q.entry (sym p.one ∙ e ∙ q.one)).1 in p.reply ∙ ap (λ x. Some (reply_of asked x)) same ∙ sym q.reply;
 }
+
+same_first : (asks : List Asked) (s : State) (added added' : List Entry) (out out' : Option Out) (new new' : State) → PollsFirst asks s added out new → PollsFirst asks s added' out' new' → SameStep added added' out out' new new'
+same_first [] s added added' out out' new new' p q = idle s _ _ _ _ _ _ p q
+same_first (asked ∷ rest) s added added' out out' new new' p q = same_asked (ready_of asked) asked rest s _ _ _ _ _ _ p q
 
 same_poll : (one : Bool) (s : State) (added added' : List Entry) (out out' : Option Out) (new new' : State) → MatchBool one (PollsFirst s.asks s added out new) (IsIdle s added out new)
     → MatchBool one (PollsFirst s.asks s added' out' new') (IsIdle s added' out' new') → SameStep added added' out out' new new'

@@ -1,5 +1,5 @@
 -- Statements executed alone, one after another, are a run of the machine of the serial order.
-use Rattle.std.proofs.Common.{◌≡◌, ℕ, ◌+◌, Bool, true, false, cond, not, ◌&&◌, ◌||◌, List, [], ◌∷◌, ◌++◌, map, Option, None, Some, IsTrue, refl, sym, ap, ◌∙◌, subst}
+use Rattle.std.proofs.Common.{◌≡◌, ℕ, ◌+◌, Bool, true, false, cond, not, ◌&&◌, ◌||◌, List, [], ◌∷◌, ◌++◌, map, Option, None, Some, Result, Ok, Err, IsTrue, refl, sym, ap, ◌∙◌, subst}
 use Rattle.std.specs.Prelude.{MatchBool, ◌==◌}
 use Rattle.serial_order.specs.Serial.{Meaning}
 use Rattle.serial_order.specs.Machine.{State as MachineState, start, IsFree, NoWriter, Step as MachineStep, Run as MachineRun}
@@ -12,10 +12,13 @@ use Rattle.sql_text.specs.declared.class.Class.{Class}
 use Rattle.sql_text.specs.declared.class.Class.TheVariants as class
 use Rattle.engine_core.specs.declared.engine.Entry.{Entry}
 use Rattle.engine_core.specs.declared.engine.Entry.TheVariants.{Alone, Began, Ran, Denied, Ended, Failed}
-use Rattle.hrana_serve.specs.Means.{IsEntryOf, class_if, wrote_of}
+use Rattle.hrana_serve.specs.Means.{IsEntryOf, wrote_of}
+use Rattle.hrana_stmt.specs.declared.codes.Code.{Code}
+use Rattle.hrana_serve.specs.Checks.{Ready, ready_of}
+use Rattle.hrana_serve.proofs.CheckLemmas.{ready_able}
 use Rattle.hrana_serve.specs.Run.{Run, nothing, more}
 use Rattle.hrana_serve.specs.State.{State}
-use Rattle.hrana_serve.specs.Step.{Step, PollsFirst, IsIdle}
+use Rattle.hrana_serve.specs.Step.{Step, PollsAsked, PollsFirst, IsIdle}
 use Rattle.hrana_serve.specs.Stepped.{Executes}
 use Rattle.hrana_serve.specs.declared.ask.Asked.{Asked}
 use Rattle.hrana_serve.specs.declared.replies.Out.{Out}
@@ -43,26 +46,26 @@ kept_append (Ran unit stmt answer ∷ J) K p q = absurd p
 kept_append (Denied unit deny ∷ J) K p q = absurd p
 kept_append (Ended unit how ∷ J) K p q = absurd p
 
-able : (write : Bool) → IsReadOrWrite (class_if write)
-able true = tt
-able false = tt
-
-kept_entry : (a : Asked) (e : Entry) → IsEntryOf a e → IsKept (e ∷ [])
+kept_entry : (ready : Ready) (e : Entry) → IsReadOrWrite ready.class → IsEntryOf ready e → IsKept (e ∷ [])
 unfolding IsKept
-kept_entry a (Alone stream stmt answer wrote) i = (i.2, subst IsReadOrWrite (sym i.1.class) (able a.write), tt)
-kept_entry a (Failed stream unit cause) i = (i.1, tt)
-kept_entry a (Began unit stream) i = absurd i
-kept_entry a (Ran unit stmt answer) i = absurd i
-kept_entry a (Denied unit deny) i = absurd i
-kept_entry a (Ended unit how) i = absurd i
+kept_entry ready (Alone stream stmt answer wrote) able i = (i.2, subst IsReadOrWrite (sym i.1.class) able, tt)
+kept_entry ready (Failed stream unit cause) able i = (i.1, tt)
+kept_entry ready (Began unit stream) able i = absurd i
+kept_entry ready (Ran unit stmt answer) able i = absurd i
+kept_entry ready (Denied unit deny) able i = absurd i
+kept_entry ready (Ended unit how) able i = absurd i
 
 kept_none : (added : List Entry) → added ≡ [] → IsKept added
 unfolding IsKept
 kept_none added e = subst IsKept (sym e) tt
 
+kept_asked : (a : Asked) (rest : List Asked) (s new : State) (added : List Entry) (out : Option Out) (r : Result Ready Code) → ready_of a ≡ r → PollsAsked r a rest s added out new → IsKept added
+kept_asked a rest s new added out (Err code) is p = kept_none added p.none
+kept_asked a rest s new added out (Ok ready) is p = subst IsKept (sym p.one) (kept_entry ready p.entry (ready_able a ready is) p.is_entry)
+
 kept_first : (asks : List Asked) (s new : State) (added : List Entry) (out : Option Out) → PollsFirst asks s added out new → IsKept added
 kept_first [] s new added out p = kept_none added p.none
-kept_first (a ∷ asks) s new added out p = subst IsKept (sym p.one) (kept_entry a p.entry p.is_entry)
+kept_first (a ∷ asks) s new added out p = kept_asked a asks s new added out (ready_of a) refl p
 
 kept_poll : (one : Bool) (s new : State) (added : List Entry) (out : Option Out) → MatchBool one (PollsFirst s.asks s added out new) (IsIdle s added out new) → IsKept added
 kept_poll true s new added out p = kept_first s.asks s new added out p

@@ -1,9 +1,11 @@
 -- Replies stand in the order of their requests.
-use Rattle.std.specs.Prelude.{◌≡◌, ℕ, ℤ, List, [], ◌∷◌, ◌++◌, Option, None, Some}
+use Rattle.std.specs.Prelude.{◌≡◌, ℕ, ℤ, List, [], ◌∷◌, ◌++◌, Option, None, Some, Ok, Err}
 use Rattle.hrana_stmt.specs.declared.statements.Stmt.{Stmt}
 use Rattle.engine_core.specs.declared.engine.Entry.{Entry}
 use Rattle.hrana_serve.specs.Messages.{IsMessage}
-use Rattle.hrana_serve.specs.Means.{IsEntryOf, reply_of}
+use Rattle.hrana_stmt.specs.declared.codes.Code.{Code}
+use Rattle.hrana_serve.specs.Checks.{Ready, ready_of}
+use Rattle.hrana_serve.specs.Means.{IsEntryOf, reply_of, refusal_of}
 use Rattle.hrana_serve.specs.Step.{asked_of}
 use Rattle.hrana_serve.specs.declared.ask.Asked.{Asked}
 use Rattle.hrana_serve.specs.declared.message.ClientMsg.TheVariants.{Execute}
@@ -39,13 +41,14 @@ replies [] outs = []
 replies (event ∷ V) [] = []
 replies (event ∷ V) (out ∷ outs) = reply_in event out ++ replies V outs
 
--- The k-th entry is one of the k-th request, and the k-th reply is what this request means with it. Requests past
--- the last reply still wait.
-abbrev pub AnsweredInOrder : List Asked → List Entry → List Out → Type 0
-AnsweredInOrder asks [] [] = Unit {0}
-AnsweredInOrder (asked ∷ asks) (entry ∷ journal) (reply ∷ given) =
-    IsEntryOf asked entry × (reply ≡ reply_of asked.request_id entry) × AnsweredInOrder asks journal given
-AnsweredInOrder asks journal given = ⊥
+-- The k-th reply is that of the k-th request: of the first check that refuses it, or else of the next entry, which is
+-- one of its statement. Requests past the last reply still wait.
+pub data AnsweredInOrder : List Asked → List Entry → List Out → Type 0 where
+  waiting : (asks : List Asked) → AnsweredInOrder asks [] []
+  refused : {asks : List Asked} {J : List Entry} {given : List Out} (asked : Asked) (code : Code) → ready_of asked ≡ Err code
+      → AnsweredInOrder asks J given → AnsweredInOrder (asked ∷ asks) J (refusal_of asked code ∷ given)
+  ran : {asks : List Asked} {J : List Entry} {given : List Out} (asked : Asked) (ready : Ready) (entry : Entry) → ready_of asked ≡ Ok ready → IsEntryOf ready entry
+      → AnsweredInOrder asks J given → AnsweredInOrder (asked ∷ asks) (entry ∷ J) (reply_of asked entry ∷ given)
 
 pub record RepliesInOrder (V : List Event) (J : List Entry) (outs : List (Option Out)) : Type 0 where
   pub asks : List Asked

@@ -1,3 +1,4 @@
+pub mod Checks
 pub mod InOrder
 pub mod Laws
 pub mod Messages

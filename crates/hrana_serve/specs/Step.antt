@@ -1,16 +1,15 @@
 -- One event of the server, as a relation: the state before it, the entries that it adds, what it gives, and the
 -- state after it.
-use Rattle.std.specs.Prelude.{◌≡◌, ◌<◌, ℕ, ℤ, Bool, true, false, ◌&&◌, List, [], ◌∷◌, ◌++◌, Option, None, Some, length, nat_eq, ◌==◌, MatchBool, if◌then◌else◌, IsSome, IsSomeAnd}
-use Rattle.std.specs.Cmp.Lexicographic.{pointwise}
-use Rattle.hrana_value.specs.declared.value.Value.{Value}
+use Rattle.std.specs.Prelude.{◌≡◌, ◌<◌, ℕ, ℤ, Bool, true, false, List, [], ◌∷◌, ◌++◌, Option, None, Some, Result, Ok, Err, length, ◌==◌, MatchBool, IsSome, IsSomeAnd}
 use Rattle.hrana_stmt.specs.declared.statements.Stmt.{Stmt}
 use Rattle.hrana_stmt.specs.declared.statements.SqlRef.{SqlRef}
 use Rattle.hrana_stmt.specs.declared.statements.SqlRef.TheVariants as sql
-use Rattle.hrana_stmt.specs.declared.statements.NamedArg.{NamedArg}
-use Rattle.engine_core.specs.Plain.{insert_text, select_text}
+use Rattle.hrana_stmt.specs.declared.codes.Code.{Code}
+use Rattle.sql_text.specs.Class.{class_of_text}
 use Rattle.engine_core.specs.declared.engine.Entry.{Entry}
 use Rattle.hrana_serve.specs.Messages.{IsMessage}
-use Rattle.hrana_serve.specs.Means.{IsEntryOf, reply_of}
+use Rattle.hrana_serve.specs.Checks.{Ready, ready_of, is_transaction}
+use Rattle.hrana_serve.specs.Means.{IsEntryOf, reply_of, refusal_of}
 use Rattle.hrana_serve.specs.Written.{message_of, hello_data, ok_data, opened_data}
 use Rattle.hrana_serve.specs.State.{State}
 use Rattle.hrana_serve.specs.declared.ask.Asked.{Asked}
@@ -22,35 +21,18 @@ use Rattle.hrana_serve.specs.declared.script.Event.TheVariants.{Opened, Text, Po
 
 -- ---- the statements that are built so far
 
-abbrev pub is_one_value : List Value → Bool
-is_one_value (value ∷ []) = true
-is_one_value values = false
-
-abbrev pub is_no_value : List Value → Bool
-is_no_value [] = true
-is_no_value (value ∷ values) = false
-
-abbrev pub is_no_name : List NamedArg → Bool
-is_no_name [] = true
-is_no_name (arg ∷ args) = false
-
--- an insert of one value, or the select, of which all rows are wanted
-abbrev pub write_of : List ℕ → Stmt → Option Bool
-write_of text stmt =
-    if pointwise nat_eq text insert_text && is_one_value stmt.args then Some true
-    else (if pointwise nat_eq text select_text && is_no_value stmt.args then Some false else None)
-
-abbrev pub asked_of_text : ℤ → Stmt → List ℕ → Option Bool → Option Asked
-asked_of_text id stmt text None = None
-asked_of_text id stmt text (Some write) = Some (record { request_id = id; sql = text; values = stmt.args; write = write })
+abbrev pub asked_unless : Bool → Asked → Option Asked
+asked_unless true asked = None
+asked_unless false asked = Some asked
 
 abbrev pub asked_of_sql : ℤ → Stmt → SqlRef → Option Asked
-asked_of_sql id stmt (sql.Text text) = asked_of_text id stmt text (write_of text stmt)
+asked_of_sql id stmt (sql.Text text) =
+    asked_unless (is_transaction (class_of_text text)) (record { request_id = id; sql = text; args = stmt.args; named = stmt.named; want_rows = stmt.want_rows })
 asked_of_sql id stmt (sql.Id n) = None
 
--- the request that waits, of an `execute` that is built
+-- The request that waits, of an `execute`. A stored text, and one that begins or ends a transaction, is not built yet.
 abbrev pub asked_of : ℤ → Stmt → Option Asked
-asked_of id stmt = if stmt.want_rows && is_no_name stmt.named then asked_of_sql id stmt stmt.sql else None
+asked_of id stmt = asked_of_sql id stmt stmt.sql
 
 -- ---- what fits
 
@@ -92,17 +74,28 @@ pub record IsIdle (s : State) (added : List Entry) (out : Option Out) (new : Sta
   pub silent : out ≡ None
   pub same : new ≡ s
 
+-- a check refuses the request, and the rest still wait; no entry is added
+pub record IsRefused (asked : Asked) (code : Code) (rest : List Asked) (s : State) (added : List Entry) (out : Option Out) (new : State) : Type 0 where
+  pub none : added ≡ []
+  pub reply : out ≡ Some (refusal_of asked code)
+  pub left : new ≡ record s { asks = rest }
+
 -- the request is answered by the entry that the poll adds, and the rest still wait
-pub record Answers (asked : Asked) (rest : List Asked) (s : State) (added : List Entry) (out : Option Out) (new : State) : Type 0 where
+pub record Answers (asked : Asked) (ready : Ready) (rest : List Asked) (s : State) (added : List Entry) (out : Option Out) (new : State) : Type 0 where
   pub entry : Entry
   pub one : added ≡ entry ∷ []
-  pub is_entry : IsEntryOf asked entry
-  pub reply : out ≡ Some (reply_of asked.request_id entry)
+  pub is_entry : IsEntryOf ready entry
+  pub reply : out ≡ Some (reply_of asked entry)
   pub left : new ≡ record s { asks = rest }
+
+-- by what the checks say
+abbrev pub PollsAsked : Result Ready Code → Asked → List Asked → State → List Entry → Option Out → State → Type 0
+PollsAsked (Err code) asked rest s added out new = IsRefused asked code rest s added out new
+PollsAsked (Ok ready) asked rest s added out new = Answers asked ready rest s added out new
 
 abbrev pub PollsFirst : List Asked → State → List Entry → Option Out → State → Type 0
 PollsFirst [] s added out new = IsIdle s added out new
-PollsFirst (asked ∷ rest) s added out new = Answers asked rest s added out new
+PollsFirst (asked ∷ rest) s added out new = PollsAsked (ready_of asked) asked rest s added out new
 
 -- a poll of stream 1 answers the oldest request that waits; a poll of another stream does nothing
 abbrev pub Polls : State → ℕ → List Entry → Option Out → State → Type 0

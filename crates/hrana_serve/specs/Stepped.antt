@@ -1,5 +1,5 @@
 -- What a step says by its answer, and what calls add to the journal.
-use Rattle.std.specs.Prelude.{◌≡◌, Bool, true, IsTrue, ℕ, List, [], ◌∷◌, ◌++◌, Option}
+use Rattle.std.specs.Prelude.{◌≡◌, Bool, true, IsTrue, ℕ, List, [], ◌∷◌, ◌++◌, Option, Err, slice_get, IsSomeAnd}
 use Rattle.serial_order.specs.Serial.{Meaning}
 use Rattle.engine_core.specs.Causes.{RoseBy}
 use Rattle.engine_core.specs.Journal.{fault_count}
@@ -8,7 +8,9 @@ use Rattle.engine_core.specs.declared.engine.Entry.TheVariants.{Alone, Began, Ra
 use Rattle.engine_core.specs.declared.engine.Answer.{Answer}
 use Rattle.engine_core.specs.declared.statement.BoundStmt.{BoundStmt}
 use Rattle.hrana_serve.specs.State.{State}
-use Rattle.hrana_serve.specs.Step.{Step, Fits, FitsMessage, FitsText, Arrives, ArrivesText}
+use Rattle.hrana_stmt.specs.declared.codes.Code.{Code}
+use Rattle.hrana_serve.specs.Checks.{IsPassed, ready_of}
+use Rattle.hrana_serve.specs.Step.{Step, Fits, FitsMessage, FitsText, Arrives, ArrivesText, PollsFirst}
 use Rattle.hrana_serve.specs.declared.message.ClientMsg.{ClientMsg}
 use Rattle.hrana_serve.specs.declared.replies.Out.{Out}
 use Rattle.hrana_serve.specs.declared.hub.Stepped.{Stepped}
@@ -71,3 +73,25 @@ TextAs s text (Gave out) new = (s.known ≡ true) × ArrivesText s text out new
 TextAs s text Refused new = (new ≡ s) × ((s.known ≡ true) → FitsText s text → ⊥)
 TextAs s text Short new = new ≡ s
 TextAs s text Lost new = ⊥
+
+-- ---- the oldest request that waits
+
+-- it passed its checks as this statement
+abbrev pub IsFirstPassed : State → BoundStmt → Type 0
+IsFirstPassed s stmt = IsSomeAnd (slice_get s.asks 0) (λ asked. IsPassed asked stmt)
+
+-- a check refuses it with this code
+abbrev pub IsFirstRefused : State → Code → Type 0
+IsFirstRefused s code = IsSomeAnd (slice_get s.asks 0) (λ asked. ready_of asked ≡ Err code)
+
+-- it was answered
+pub record FirstOf (s : State) (added : List Entry) (new : State) : Type 0 where
+  pub out : Option Out
+  pub polls : PollsFirst s.asks s added out new
+
+-- what came of a poll of its stream
+abbrev pub FirstAs : State → Stepped → State → List Entry → Type 0
+FirstAs s (Gave out) new added = PollsFirst s.asks s added out new
+FirstAs s Refused new added = ⊥
+FirstAs s Short new added = (added ≡ []) × (new ≡ s)
+FirstAs s Lost new added = FirstOf s added new

@@ -1,12 +1,54 @@
 // A request that waits on its stream.
-use hrana_value::{Txt, Values};
+ghost use Rattle.std.specs.Prelude.{◌≡◌};
+ghost use Rattle.hrana_serve.specs.Checks.{is_transaction};
+ghost use Rattle.hrana_serve.specs.Step.{asked_of};
 
-/// An `execute` that waits on its stream: its statement's text, with a value for each parameter.
+use hrana_stmt::{NamedArgs, SqlRef, Stmt};
+use hrana_value::{Txt, Values};
+use sql_text::{Class, class_of};
+
+/// An `execute` that waits on its stream.
 #[derive(Debug, Drop)]
 pub struct Asked {
     pub request_id: i32,
     pub sql: Txt,
-    pub values: Values,
-    /// Whether the statement writes.
-    pub write: bool,
+    pub args: Values,
+    pub named: NamedArgs,
+    pub want_rows: bool,
+}
+
+fn is_transaction(class: Class) -> bool
+    ensures { result ≡ is_transaction class }
+{
+    match class {
+        Class::Begin(_) => true,
+        Class::Commit => true,
+        Class::Rollback => true,
+        _ => false,
+    }
+}
+
+/// The request that waits, of an `execute`. A stored text, and one that begins or ends a transaction, is not built yet.
+pub fn ask_of(request_id: i32, stmt: Stmt) -> Option<Asked>
+    ensures { result ≡ asked_of request_id stmt }
+{
+    let Stmt {
+        sql,
+        args,
+        named,
+        want_rows,
+    } = stmt;
+    let SqlRef::Text(sql) = sql else {
+        return None;
+    };
+    if is_transaction(class_of(sql.as_str())) {
+        return None;
+    }
+    Some(Asked {
+        request_id,
+        sql,
+        args,
+        named,
+        want_rows,
+    })
 }

@@ -3,18 +3,19 @@ ghost use Rattle.std.specs.Prelude.{◌≡◌, ◌∷◌, [], ◌-◌, ◌<◌, 
 ghost use Rattle.engine_core.specs.Engine.{IsReadOrWrite};
 ghost use Rattle.engine_core.specs.Journal.{fault_of};
 ghost use Rattle.engine_core.specs.Causes.{RoseBy};
-ghost use Rattle.hrana_serve.specs.Means.{IsClassed, IsBound, wrote_of, IsEntryFor};
-ghost use Rattle.hrana_serve.specs.Step.{is_one_value, is_no_value, is_no_name, asked_of};
-ghost use Rattle.hrana_serve.specs.Stepped.{Adds, Executes, StepsAs, ArrivesAs, TextAs, places_of};
+ghost use Rattle.engine_core.specs.Transactions.{NoneLive};
+ghost use Rattle.hrana_serve.specs.Means.{wrote_of, IsEntryFor};
+ghost use Rattle.hrana_serve.specs.Stepped.{Adds, Executes, StepsAs, ArrivesAs, TextAs, FirstAs, IsFirstPassed, IsFirstRefused, places_of};
 ghost use Rattle.hrana_serve.specs.State.{first_state};
 
-use crate::ask::Asked;
+use crate::ask::{Asked, ask_of};
+use crate::checks::{CheckFail, check};
 use crate::message::{ClientMsg, DecodeFail, decode_client};
-use crate::replies::{Out, hello_out, opened_out, reply_out};
+use crate::replies::{Out, hello_out, opened_out, refusal_out, reply_out};
 use crate::script::Event;
 use engine_core::{Answer, BoundStmt, Broken, Class, Engine, EngineFail, Entries, Entry};
-use hrana_stmt::{NamedArg, SqlRef, Stmt};
-use hrana_value::{StreamNo, Value};
+use hrana_stmt::{Code, Stmt};
+use hrana_value::StreamNo;
 use std::alloc::Global;
 use std::collections::VecDeque;
 use std::marker::Model;
@@ -33,82 +34,6 @@ pub enum Stepped {
     Short,
     /// It was run, and there was no memory for what it gives.
     Lost,
-}
-
-fn is_single(values: &[Value]) -> bool
-    ensures { result ≡ is_one_value values.now }
-{
-    match values {
-        [_] => true,
-        _ => false,
-    }
-}
-
-fn is_empty(values: &[Value]) -> bool
-    ensures { result ≡ is_no_value values.now }
-{
-    match values {
-        [] => true,
-        _ => false,
-    }
-}
-
-fn is_unnamed(args: &[NamedArg]) -> bool
-    ensures { result ≡ is_no_name args.now }
-{
-    match args {
-        [] => true,
-        _ => false,
-    }
-}
-
-/// The request that waits, of an `execute` whose statement is built.
-fn ask_of(request_id: i32, stmt: Stmt) -> Option<Asked>
-    ensures { result ≡ asked_of request_id stmt }
-{
-    let Stmt {
-        sql,
-        args,
-        named,
-        want_rows,
-    } = stmt;
-    if !want_rows || !is_unnamed(named.as_slice()) {
-        return None;
-    }
-    let SqlRef::Text(sql) = sql else {
-        return None;
-    };
-    let write = if sql.as_str() == "INSERT INTO t VALUES (?)" && is_single(args.as_slice()) {
-        true
-    } else if sql.as_str() == "SELECT a FROM t" && is_empty(args.as_slice()) {
-        false
-    } else {
-        return None;
-    };
-    Some(Asked {
-        request_id,
-        sql,
-        values: args,
-        write,
-    })
-}
-
-fn bind(asked: Asked) -> BoundStmt
-    requires { IsClassed asked }
-    ensures bound { IsBound asked result }
-    ensures class { IsReadOrWrite result.class }
-{
-    let Asked {
-        sql,
-        values,
-        write,
-        request_id: _,
-    } = asked;
-    BoundStmt {
-        sql,
-        class: if write { Class::Write } else { Class::Read },
-        values,
-    }
 }
 
 fn has_written(class: Class, answer: &Answer) -> bool
@@ -137,8 +62,10 @@ fn alone(stmt: BoundStmt, answer: Answer) -> Entry
 
 /// Runs a statement of stream 1 alone, and gives the entry that says what came of it.
 fn run_alone<E: Engine>(engine: &mut E, stmt: BoundStmt) -> Entry
-    requires { IsReadOrWrite stmt.class }
+    requires class { IsReadOrWrite stmt.class }
+    requires quiet { NoneLive (E.live engine.old) }
     ensures entry { IsEntryFor stmt result }
+    ensures quiet { NoneLive (E.live engine.new) }
     ensures run { Executes E.told E.meaning (E.db engine.old) (result ∷ []) (E.db engine.new) }
     ensures cause { RoseBy (fault_of result) (E.faults engine.old) (E.faults engine.new) }
     ensures later { E.faults engine.old ≤ E.faults engine.new }
@@ -171,13 +98,10 @@ pub struct Hub {
 
 impl Model for Hub {
     ghost use Rattle.hrana_serve.specs.State.{State};
-    ghost use Rattle.hrana_serve.specs.Means.{AreClassed};
 
     ghost Value = { State };
 
     ghost view = { λ h. record { known = h.known; greeted = h.greeted; stream = h.stream; asks = h.asks.items } };
-
-    ghost invariant = { λ h. AreClassed h.asks.items };
 }
 
 impl Hub {
@@ -266,7 +190,53 @@ impl Hub {
         }
     }
 
-    /// A poll of a stream. The oldest request of stream 1 that waits is run.
+    /// Runs the statement of the oldest request that waits.
+    fn run_first<E: Engine>(
+        &mut self,
+        engine: &mut E,
+        entries: &mut Entries,
+        stmt: BoundStmt,
+    ) -> Stepped
+        requires room { 1 ≤ entries.old.spare }
+        requires few { entries.old.next < 2 ^ 64 - 1 }
+        requires quiet { NoneLive (E.live engine.old) }
+        requires class { IsReadOrWrite stmt.class }
+        requires passed { IsFirstPassed self.old stmt }
+        ensures adds { Adds E.told E.meaning (E.db engine.old) (E.db engine.new) (E.faults engine.old) (E.faults engine.new)
+            entries.old.list entries.new.list (FirstAs self.old result self.new) }
+        ensures quiet { NoneLive (E.live engine.new) }
+        ensures next { entries.new.next ≡ entries.old.next }
+        ensures later { E.faults engine.old ≤ E.faults engine.new }
+    {
+        let Some(asked) = self.asks.pop_front() else {
+            return Stepped::Gave(None);
+        };
+        let entry = run_alone(engine, stmt);
+        let out = reply_out(self.alloc, &asked, &entry);
+        drop(asked);
+        entries.push(entry);
+        match out {
+            Ok(out) => Stepped::Gave(Some(out)),
+            Err(_) => Stepped::Lost,
+        }
+    }
+
+    /// Answers the oldest request that waits, which a check refuses.
+    fn refuse_first(&mut self, code: Code) -> Stepped
+        requires refused { IsFirstRefused self.old code }
+        ensures { FirstAs self.old result self.new [] }
+    {
+        let Some(asked) = self.asks.front() else {
+            return Stepped::Gave(None);
+        };
+        let Ok(out) = refusal_out(self.alloc, asked.request_id, code) else {
+            return Stepped::Short;
+        };
+        let _answered = self.asks.pop_front();
+        Stepped::Gave(Some(out))
+    }
+
+    /// A poll of a stream. The oldest request of stream 1 that waits is answered.
     fn poll<E: Engine>(
         &mut self,
         engine: &mut E,
@@ -274,25 +244,24 @@ impl Hub {
         stream: StreamNo,
     ) -> Stepped
         requires room { 1 ≤ entries.old.spare }
+        requires quiet { NoneLive (E.live engine.old) }
         requires few { entries.old.next < 2 ^ 64 - 1 }
         ensures adds { Adds E.told E.meaning (E.db engine.old) (E.db engine.new) (E.faults engine.old) (E.faults engine.new)
             entries.old.list entries.new.list (StepsAs self.old (Event.Poll stream) result self.new) }
+        ensures quiet { NoneLive (E.live engine.new) }
         ensures next { entries.new.next ≡ entries.old.next }
         ensures later { E.faults engine.old ≤ E.faults engine.new }
     {
         if stream.0 != 1 {
             return Stepped::Gave(None);
         }
-        let Some(asked) = self.asks.pop_front() else {
+        let Some(asked) = self.asks.front() else {
             return Stepped::Gave(None);
         };
-        let id = asked.request_id;
-        let entry = run_alone(engine, bind(asked));
-        let out = reply_out(self.alloc, id, &entry);
-        entries.push(entry);
-        match out {
-            Ok(out) => Stepped::Gave(Some(out)),
-            Err(_) => Stepped::Lost,
+        match check(self.alloc, asked) {
+            Ok(stmt) => self.run_first(engine, entries, stmt),
+            Err(CheckFail::Refused(code)) => self.refuse_first(code),
+            Err(CheckFail::NoMemory) => Stepped::Short,
         }
     }
 
@@ -304,9 +273,11 @@ impl Hub {
         event: Event,
     ) -> Stepped
         requires room { places_of event ≤ entries.old.spare }
+        requires quiet { NoneLive (E.live engine.old) }
         requires few { entries.old.next < 2 ^ 64 - 1 }
         ensures adds { Adds E.told E.meaning (E.db engine.old) (E.db engine.new) (E.faults engine.old) (E.faults engine.new)
             entries.old.list entries.new.list (StepsAs self.old event result self.new) }
+        ensures quiet { NoneLive (E.live engine.new) }
         ensures next { entries.new.next ≡ entries.old.next }
         ensures later { E.faults engine.old ≤ E.faults engine.new }
     {

@@ -1,6 +1,7 @@
 // The lines of a script, one after another.
 ghost use Rattle.std.specs.Prelude.{◌≡◌, ◌<◌, ◌≤◌, ◌-◌, ◌^◌, length, map, []};
 ghost use Rattle.engine_core.specs.Causes.{Rose};
+ghost use Rattle.engine_core.specs.Transactions.{NoneLive};
 ghost use Rattle.hrana_serve.specs.State.{first_state};
 ghost use Rattle.hrana_serve.specs.Stepped.{Adds};
 ghost use Rattle.hrana_serve.specs.Replay.{PlaysAs, Halted, Replayed, IsLinesStatus};
@@ -36,6 +37,7 @@ fn play_line<E: Engine, O: Sink>(
     sink: &mut O,
 ) -> LineEnd
     requires filled { 0 < length line.now }
+    requires quiet { NoneLive (E.live engine.old) }
     requires few { entries.old.next < 2 ^ 64 - 1 }
     ensures adds { Adds E.told E.meaning (E.db engine.old) (E.db engine.new) (E.faults engine.old) (E.faults engine.new)
         entries.old.list entries.new.list (PlaysAs line.now hub.old result hub.new (O.written sink.old) (O.written sink.new)) }
@@ -43,6 +45,7 @@ fn play_line<E: Engine, O: Sink>(
     ensures write { result ≡ LineEnd.WriteFault → Rose (O.faults sink.old) (O.faults sink.new) }
     ensures later { O.faults sink.old ≤ O.faults sink.new }
     ensures engine_later { E.faults engine.old ≤ E.faults engine.new }
+    ensures quiet { NoneLive (E.live engine.new) }
 {
     if entries.reserve(1).is_err() {
         return LineEnd::Short;
@@ -85,6 +88,7 @@ fn play_lines<E: Engine, O: Sink>(
     sink: &mut O,
 ) -> Halt
     requires fresh { hub.old ≡ first_state }
+    requires quiet { NoneLive (E.live engine.old) }
     requires none { entries.old.list ≡ [] }
     requires first { entries.old.next ≡ 1 }
     ensures adds { Adds E.told E.meaning (E.db engine.old) (E.db engine.new) (E.faults engine.old) (E.faults engine.new)
@@ -94,6 +98,7 @@ fn play_lines<E: Engine, O: Sink>(
     ensures write { result.status ≡ Status.WriteFault → Rose (O.faults sink.old) (O.faults sink.new) }
     ensures later { O.faults sink.old ≤ O.faults sink.new }
     ensures engine_later { E.faults engine.old ≤ E.faults engine.new }
+    ensures quiet { NoneLive (E.live engine.new) }
 {
     let mut events: u64 = 0;
     for (at, line) in lines.iter().enumerate() {
@@ -144,6 +149,7 @@ pub fn play<E: Engine, O: Sink>(
     entries: &mut Entries,
     sink: &mut O,
 ) -> Halt
+    requires quiet { NoneLive (E.live engine.old) }
     requires none { entries.old.list ≡ [] }
     requires first { entries.old.next ≡ 1 }
     ensures adds { Adds E.told E.meaning (E.db engine.old) (E.db engine.new) (E.faults engine.old) (E.faults engine.new)
@@ -152,6 +158,7 @@ pub fn play<E: Engine, O: Sink>(
     ensures write { result.status ≡ Status.WriteFault → Rose (O.faults sink.old) (O.faults sink.new) }
     ensures later { O.faults sink.old ≤ O.faults sink.new }
     ensures engine_later { E.faults engine.old ≤ E.faults engine.new }
+    ensures quiet { NoneLive (E.live engine.new) }
 {
     let mut hub = Hub::new(alloc);
     let halt = play_lines(alloc, lines, &mut hub, engine, entries, sink);

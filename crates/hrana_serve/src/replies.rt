@@ -4,10 +4,11 @@ ghost use Rattle.serde_json.specs.View.{view};
 ghost use Rattle.serde_json.specs.Written.{has_float};
 ghost use Rattle.hrana_stmt.specs.Written.{result_data};
 ghost use Rattle.hrana_serve.specs.Written.{hello_data, ok_data, failed_data, opened_data, executed_data, message_of, print_line};
-ghost use Rattle.hrana_serve.specs.Means.{reply_data, reply_of};
+ghost use Rattle.hrana_serve.specs.Means.{reply_data, reply_of, shown};
 
+use crate::ask::Asked;
 use engine_core::{Answer, Broken, Entry};
-use hrana_stmt::{Code, StmtResult, error_to_json, result_to_json, wire_error};
+use hrana_stmt::{Code, Rows, StmtResult, error_to_json, result_to_json, wire_error};
 use hrana_value::{NoMemory, Txt};
 use serde_json::{Map, Value as Json, json, put};
 use std::alloc::Global;
@@ -46,10 +47,33 @@ fn failed_to_json(alloc: Global, id: i32, code: Code) -> Result<Json, NoMemory>
     Ok(Json::Object(members))
 }
 
-fn executed_to_json(alloc: Global, given: &StmtResult) -> Result<Json, NoMemory>
-    ensures { IfOk result (λ json. view json ≡ executed_data given.now) }
+fn without_rows(alloc: Global, given: &StmtResult) -> Result<StmtResult, NoMemory>
+    ensures { IfOk result (λ bare. bare ≡ shown false given.now) }
 {
-    let given = result_to_json(alloc, given)?;
+    Ok(StmtResult {
+        cols: given.cols.copy(alloc)?,
+        rows: Rows::new(alloc),
+        affected: given.affected,
+        last_rowid: given.last_rowid,
+    })
+}
+
+/// A result, without its rows where they aren't wanted.
+fn shown_to_json(alloc: Global, want_rows: bool, given: &StmtResult) -> Result<Json, NoMemory>
+    ensures { IfOk result (λ json. view json ≡ result_data (shown want_rows given.now)) }
+{
+    if want_rows {
+        result_to_json(alloc, given)
+    } else {
+        let bare = without_rows(alloc, given)?;
+        result_to_json(alloc, &bare)
+    }
+}
+
+fn executed_to_json(alloc: Global, want_rows: bool, given: &StmtResult) -> Result<Json, NoMemory>
+    ensures { IfOk result (λ json. view json ≡ executed_data (shown want_rows given.now)) }
+{
+    let given = shown_to_json(alloc, want_rows, given)?;
     let mut members = Map::new(alloc);
     put(&mut members, alloc, "result", given)?;
     put(&mut members, alloc, "type", json!(in alloc; "execute")?)?;
@@ -57,13 +81,14 @@ fn executed_to_json(alloc: Global, given: &StmtResult) -> Result<Json, NoMemory>
 }
 
 /// The reply to a statement, by the entry that its poll added.
-fn reply_to_json(alloc: Global, id: i32, entry: &Entry) -> Result<Json, NoMemory>
-    ensures { IfOk result (λ json. view json ≡ reply_data id entry.now) }
+fn reply_to_json(alloc: Global, asked: &Asked, entry: &Entry) -> Result<Json, NoMemory>
+    ensures { IfOk result (λ json. view json ≡ reply_data asked.now entry.now) }
 {
+    let id = asked.request_id;
     match entry {
         Entry::Alone { answer, .. } => match answer {
             Answer::Gave(given) => {
-                let executed = executed_to_json(alloc, given)?;
+                let executed = executed_to_json(alloc, asked.want_rows, given)?;
                 ok_to_json(alloc, id, executed)
             }
             Answer::Refused(code) => failed_to_json(alloc, id, *code),
@@ -87,11 +112,19 @@ fn message(alloc: Global, json: &Json) -> Result<Out, NoMemory>
     })
 }
 
-/// The reply to the request of this id, by the entry that its poll added.
-pub fn reply_out(alloc: Global, id: i32, entry: &Entry) -> Result<Out, NoMemory>
-    ensures { IfOk result (λ out. out ≡ reply_of id entry.now) }
+/// The reply to a request, by the entry that its poll added.
+pub fn reply_out(alloc: Global, asked: &Asked, entry: &Entry) -> Result<Out, NoMemory>
+    ensures { IfOk result (λ out. out ≡ reply_of asked.now entry.now) }
 {
-    let json = reply_to_json(alloc, id, entry)?;
+    let json = reply_to_json(alloc, asked, entry)?;
+    message(alloc, &json)
+}
+
+/// The reply to the request of this id, which is refused with this code.
+pub fn refusal_out(alloc: Global, id: i32, code: Code) -> Result<Out, NoMemory>
+    ensures { IfOk result (λ out. out ≡ message_of (failed_data id code)) }
+{
+    let json = failed_to_json(alloc, id, code)?;
     message(alloc, &json)
 }
 

@@ -1,4 +1,6 @@
 // Whole runs over memory, by the worked examples: printed bytes, the statuses, and faults at each call.
+ghost use Rattle.engine_core.specs.Transactions.{NoneLive};
+
 use crate::{Ended, Status, World, hrana};
 use engine_core::{
     Broken, ByteSink, ByteSource, Engine, Entry, Failing, NoMemory, PlainKeeper, Sink,
@@ -61,7 +63,9 @@ fn play<E: Engine + Drop>(
     read_faults: &[u64],
     write_faults: &[u64],
     engine: E,
-) -> Result<(Ended, ByteSink), NoMemory> {
+) -> Result<(Ended, ByteSink), NoMemory>
+    requires { NoneLive (E.live engine) }
+{
     let mut world = World {
         source: ByteSource::new(alloc, script, read_faults)?,
         sink: ByteSink::new(alloc, write_faults)?,
@@ -153,13 +157,10 @@ fn texts_that_do_not_fit_are_bad(rt: HostRuntime) -> Result<(), Fail> {
 #[test]
 fn statements_that_are_not_built_are_bad(rt: HostRuntime) -> Result<(), Fail> {
     for stmt in [
-        "{\"sql\":\"SELECT 1\"}",
         "{\"sql_id\":1}",
-        "{\"sql\":\"SELECT a FROM t\",\"want_rows\":false}",
-        "{\"sql\":\"SELECT a FROM t\",\"args\":[{\"type\":\"null\"}]}",
-        "{\"sql\":\"SELECT a FROM t\",\"named_args\":[{\"name\":\"a\",\"value\":{\"type\":\"null\"}}]}",
-        "{\"sql\":\"INSERT INTO t VALUES (?)\"}",
-        "{\"sql\":\"INSERT INTO t VALUES (?)\",\"args\":[{\"type\":\"null\"},{\"type\":\"null\"}]}",
+        "{\"sql\":\"BEGIN\"}",
+        "{\"sql\":\"/* x */ end transaction\"}",
+        "{\"sql\":\"ROLLBACK; SELECT a FROM t\"}",
         "{\"sql\":\"INSERT INTO t VALUES (?)\",\"args\":[{\"type\":\"float\",\"value\":1.5}]}",
         "{\"sql\":\"INSERT INTO t VALUES (?)\",\"args\":[{\"type\":\"blob\",\"base64\":\"AR==\"}]}",
         "{\"sql\":\"INSERT INTO t VALUES (?)\",\"args\":[{\"type\":\"integer\",\"value\":5}]}",
@@ -172,6 +173,71 @@ fn statements_that_are_not_built_are_bad(rt: HostRuntime) -> Result<(), Fail> {
         assert_eq!(rt; ended.status, Status::BadScript { line: 4 }, "at {stmt}");
         assert_eq!(rt; ended.unsaved.len(), 0, "at {stmt}");
         assert_eq!(rt; sink.bytes(), OPENED_OUT.as_bytes(), "at {stmt}");
+    }
+    Ok(())
+}
+
+/// Plays one statement on a plain keeper.
+fn play_statement(alloc: Global, stmt: &str) -> Result<(Ended, ByteSink), NoMemory> {
+    let script = format!(in alloc;
+        "{HELLO}> 1 {{\"type\":\"request\",\"request_id\":1,\"request\":{{\"type\":\"open_stream\",\"stream_id\":7}}}}\n> 1 {{\"type\":\"request\",\"request_id\":2,\"request\":{{\"type\":\"execute\",\"stream_id\":7,\"stmt\":{stmt}}}}}\n! 1\n"
+    )?;
+    replay(alloc, script.as_str())
+}
+
+#[test]
+fn checks_are_answered_by_the_poll(rt: HostRuntime) -> Result<(), Fail> {
+    let alloc = rt.alloc();
+    for (stmt, code, message, entries) in [
+        ("{\"sql\":\"SAVEPOINT 'x\"}", "SQL_OPEN", "quote or comment is not closed", 0),
+        ("{\"sql\":\" ; -- x\"}", "NO_STATEMENT", "text holds no statement", 0),
+        ("{\"sql\":\"PRAGMA x; PRAGMA y\"}", "MANY_STATEMENTS", "text holds more than one statement", 0),
+        ("{\"sql\":\"rollback to a\"}", "SAVEPOINT_UNSUPPORTED", "savepoints are not supported", 0),
+        ("{\"sql\":\"SAVEPOINT ?\"}", "SAVEPOINT_UNSUPPORTED", "savepoints are not supported", 0),
+        ("{\"sql\":\"PRAGMA x = ?\"}", "SQL_UNSUPPORTED", "statement is not supported", 0),
+        ("{\"sql\":\"SELECT ?257\"}", "ARGS", "arguments do not match parameters", 0),
+        ("{\"sql\":\"INSERT INTO t VALUES (?)\"}", "ARGS", "arguments do not match parameters", 0),
+        (
+            "{\"sql\":\"INSERT INTO t VALUES (?)\",\"args\":[{\"type\":\"null\"},{\"type\":\"null\"}]}",
+            "ARGS", "arguments do not match parameters", 0,
+        ),
+        (
+            "{\"sql\":\"SELECT a FROM t\",\"named_args\":[{\"name\":\"a\",\"value\":{\"type\":\"null\"}}]}",
+            "ARGS", "arguments do not match parameters", 0,
+        ),
+        ("{\"sql\":\"SELECT b FROM t\"}", "SYNTAX", "statement is not understood", 1),
+    ] {
+        let (ended, sink) = play_statement(alloc, stmt)?;
+        let wanted = format!(in alloc;
+            "{OPENED_OUT}< 1 {{\"error\":{{\"code\":\"{code}\",\"message\":\"{message}\"}},\"request_id\":2,\"type\":\"response_error\"}}\n"
+        )?;
+        assert_eq!(rt; ended.status, Status::Done, "at {stmt}");
+        assert_eq!(rt; ended.unsaved.len(), entries, "at {stmt}");
+        assert_eq!(rt; sink.bytes(), wanted.as_bytes(), "at {stmt}");
+    }
+    Ok(())
+}
+
+#[test]
+fn the_text_of_the_span_is_run(rt: HostRuntime) -> Result<(), Fail> {
+    let alloc = rt.alloc();
+    for (stmt, result) in [
+        (
+            "{\"sql\":\" ; SELECT a FROM t -- x\",\"want_rows\":false}",
+            "{\"affected_row_count\":0,\"cols\":[{\"name\":\"a\"}],\"last_insert_rowid\":null,\"rows\":[]}",
+        ),
+        (
+            "{\"sql\":\"/* x */ INSERT INTO t VALUES (?);\",\"args\":[{\"type\":\"integer\",\"value\":\"5\"}]}",
+            "{\"affected_row_count\":1,\"cols\":[],\"last_insert_rowid\":\"1\",\"rows\":[]}",
+        ),
+    ] {
+        let (ended, sink) = play_statement(alloc, stmt)?;
+        let wanted = format!(in alloc;
+            "{OPENED_OUT}< 1 {{\"request_id\":2,\"response\":{{\"result\":{result},\"type\":\"execute\"}},\"type\":\"response_ok\"}}\n"
+        )?;
+        assert_eq!(rt; ended.status, Status::Done, "at {stmt}");
+        assert_eq!(rt; ended.unsaved.len(), 1, "at {stmt}");
+        assert_eq!(rt; sink.bytes(), wanted.as_bytes(), "at {stmt}");
     }
     Ok(())
 }

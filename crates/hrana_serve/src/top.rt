@@ -5,6 +5,7 @@ ghost use Rattle.serial_order.specs.Explained.{Explained};
 ghost use Rattle.engine_core.specs.Bytes.{lines_of};
 ghost use Rattle.engine_core.specs.Causes.{Rose, RoseBy};
 ghost use Rattle.engine_core.specs.Journal.{entry_of, fault_count};
+ghost use Rattle.engine_core.specs.Transactions.{NoneLive};
 ghost use Rattle.engine_core.specs.Transfer.{given_count};
 ghost use Rattle.hrana_serve.specs.Top.{IsReplay, JournalFits, OutputExact, AnswersInOrder, IsFirstBad};
 
@@ -65,6 +66,8 @@ pub fn hrana<I: Source, O: Sink, E: Engine>(
     words: &[&str],
     world: &mut World<I, O, E>,
 ) -> Ended
+    requires quiet { NoneLive (E.live world.old.engine) }
+
     // The events are those of the script's lines up to the first bad one, and then `Stop`. The entries are those that
     // these events add.
     ensures journal_fits { IfSome (I.left world.old.source) (λ script. JournalFits script result.status result.events result.unsaved.items) }
@@ -72,6 +75,9 @@ pub fn hrana<I: Source, O: Sink, E: Engine>(
     // Executing the journal's units one at a time in serial order gives every answer, and the last database.
     ensures serial_explains { IsTrue E.told → Explained E.meaning (E.db world.old.engine) (map entry_of result.unsaved.items) }
     ensures last_database { IsTrue E.told → E.db world.new.engine ≡ last_database E.meaning (E.db world.old.engine) (serial (map entry_of result.unsaved.items)) }
+
+    // No transaction is live at the end.
+    ensures quiet { NoneLive (E.live world.new.engine) }
 
     // What was written is what the outs of the events are printed as: all of it, or a front.
     ensures output_exact { IfSome (I.left world.old.source) (λ script. OutputExact script result.status result.events result.unsaved.items (O.written world.old.sink) (O.written world.new.sink)) }

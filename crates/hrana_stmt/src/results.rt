@@ -1,4 +1,4 @@
-ghost use Rattle.std.specs.Prelude.{◌≡◌, [], ◌∷◌, ◌++◌, OnOk, OnErr};
+ghost use Rattle.std.specs.Prelude.{◌≡◌, [], ◌∷◌, ◌++◌, OnOk, OnErr, IfOk};
 
 use hrana_value::{NoMemory, Txt, Values};
 use std::alloc::Global;
@@ -8,6 +8,18 @@ use std::marker::Model;
 #[derive(Debug, Drop)]
 pub struct Col {
     pub name: Option<Txt>,
+}
+
+impl Col {
+    pub fn copy(&self, alloc: Global) -> Result<Col, NoMemory>
+        ensures { IfOk result (λ copy. copy ≡ self.now) }
+    {
+        let name = match &self.name {
+            Some(name) => Some(name.copy(alloc)?),
+            None => None,
+        };
+        Ok(Col { name })
+    }
 }
 
 /// A list of columns. It keeps the allocator that `new` takes.
@@ -56,6 +68,16 @@ impl Cols {
         ensures { result.now ≡ self.now }
     {
         self.items.as_slice()
+    }
+
+    pub fn copy(&self, alloc: Global) -> Result<Cols, NoMemory>
+        ensures { IfOk result (λ copy. copy ≡ self.now) }
+    {
+        let mut copies = Cols::new(alloc);
+        for col in self.as_slice() {
+            copies.push(col.copy(alloc)?)?;
+        }
+        Ok(copies)
     }
 }
 

@@ -11,6 +11,7 @@ loop-at-init g c = record {
   few = omega arith;
   later = omega arith;
   engine_later = omega arith;
+  quiet = c.requires.quiet;
 }
 
 pub loop-at-preserved-then-is_empty : goal.loop-at-preserved-then-is_empty
@@ -21,6 +22,7 @@ loop-at-preserved-then-is_empty g c = record {
   few = omega arith;
   later = c.loop-at.invariant.later;
   engine_later = c.loop-at.invariant.engine_later;
+  quiet = c.loop-at.invariant.quiet;
 }
 
 pub play_line-requires-clause-few : goal.play_line-requires-clause-few
@@ -34,6 +36,7 @@ loop-at-preserved g c = record {
   few = omega arith;
   later = omega (arith, c.in-Played.ensures.later, c.loop-at.invariant.later);
   engine_later = omega (arith, c.in-Played.ensures.engine_later, c.loop-at.invariant.engine_later);
+  quiet = c.in-Played.ensures.quiet;
 }
 
 pub returns-in-Short-clause-adds : goal.returns-in-Short-clause-adds

@@ -1,4 +1,5 @@
 use Rattle.std.proofs.Common.{◌≡◌, ◌≤◌, take, map, []}
+use Rattle.engine_core.specs.Transactions.{NoneLive}
 use Rattle.hrana_serve.specs.Stepped.{Adds}
 use Rattle.hrana_serve.specs.Replay.{Playing}
 use Rattle.hrana_serve.proofs.replay.play_lines.Given as goal
@@ -11,4 +12,5 @@ invariant-loop-at g l = record {
   few : l.events ≤ l.at;
   later : g.O.Sink.faults l.fn.sink ≤ g.O.Sink.faults l.sink;
   engine_later : g.E.Engine.faults l.fn.engine ≤ g.E.Engine.faults l.engine;
+  quiet : NoneLive (g.E.Engine.live l.engine);
 }
