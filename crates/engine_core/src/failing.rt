@@ -20,10 +20,11 @@ impl<E: Engine + Drop> Failing<E> {
     ghost use Rattle.std.specs.Prelude.{◌≤◌, true};
     ghost use Rattle.engine_core.specs.Causes.{Rose};
     ghost use Rattle.engine_core.specs.Listed.{engine_calls, FailsAsListed};
+    ghost use Rattle.engine_core.specs.Transactions.{SameLive};
 
     pub fn new(alloc: Global, engine: E, fail_at: &[u64]) -> Result<Failing<E>, NoMemory>
         ensures db { IfOk result (λ f. ⟦<Failing<E> as Engine>⟧.db f ≡ E.db engine) }
-        ensures live { IfOk result (λ f. ⟦<Failing<E> as Engine>⟧.live f ≡ E.live engine) }
+        ensures live { IfOk result (λ f. SameLive (E.live engine) (⟦<Failing<E> as Engine>⟧.live f)) }
         ensures calls { IfOk result (λ f. engine_calls f ≡ record { fail_at = fail_at.now; calls = 0 }) }
     {
         Ok(Failing {
