@@ -1,8 +1,8 @@
 -- A text cut behind a closed piece: the piece at its front stays the same.
-use Rattle.std.proofs.Common.{◌≡◌, ◌<◌, ◌≤◌, ◌+◌, ◌-◌, ℕ, suc, zero, Bool, true, false, cond, List, [], ◌∷◌, Option, None, Some, length, get_or, take, drop, refl, sym, ap, ap₂, ◌∙◌, subst, arith, ⊎_elim, min, ltb-true, lt-ltb}
+use Rattle.std.proofs.Common.{◌≡◌, ◌<◌, ◌≤◌, ◌+◌, ◌-◌, ℕ, suc, zero, Bool, true, false, cond, List, [], ◌∷◌, Option, None, Some, length, get_or, take, drop, refl, sym, ap, ap₂, ◌∙◌, subst, arith, ⊎_elim, true≢false, ltb-true, lt-ltb}
 use Rattle.std.specs.Prelude.{IfSome, unwrap_or, slice_index, nat_lt, ◌==◌, ◌&&◌}
 use Rattle.std.specs.Char.{is_ascii_digit}
-use Rattle.std.proofs.lemmas.Bool.{cond-true, cond-false, cases_Bool, and_parts, and_left, and_right, ne_eqb, ltb-false}
+use Rattle.std.proofs.lemmas.Bool.{cond-true, cond-false, cases_Bool, and_from, and_left, and_right, ne_eqb, ltb-false}
 use Rattle.std.proofs.lemmas.List.{get_or_past, get_or-take, length-take, drop-take}
 use Rattle.sql_text.specs.declared.pieces.Kind.{Kind}
 use Rattle.sql_text.specs.declared.pieces.Kind.TheVariants as kind
@@ -67,9 +67,9 @@ quote_end_cut q at (suc (suc k)) (b ∷ []) e is few = is
 quote_end_cut q at (suc zero) (b ∷ c ∷ bs) e is few =
     cond_into (b == q) (cond (c == q) (quote_end q (at + 2) bs) (Some (at + 1))) (quote_end q (at + 1) (c ∷ bs)) (Some (at + 1)) None e
     (λ _ found. ⊎_elim
-      (λ doubled. absurd (omega (arith, quote_behind q (at + 2) bs e (sym (cond-true (c == q) (quote_end q (at + 2) bs) (Some (at + 1)) doubled) ∙ found))))
-      (λ closes. sym (cond-false (c == q) (quote_end q (at + 2) bs) (Some (at + 1)) closes) ∙ found)
-      (cases_Bool (c == q)))
+    (λ doubled. absurd (omega (arith, quote_behind q (at + 2) bs e (sym (cond-true (c == q) (quote_end q (at + 2) bs) (Some (at + 1)) doubled) ∙ found))))
+    (λ closes. sym (cond-false (c == q) (quote_end q (at + 2) bs) (Some (at + 1)) closes) ∙ found)
+    (cases_Bool (c == q)))
     (λ _ found. absurd (omega (arith, quote_behind q (at + 1) (c ∷ bs) e found))) is
 quote_end_cut q at (suc (suc k)) (b ∷ c ∷ bs) e is few =
     cond_into (b == q) (cond (c == q) (quote_end q (at + 2) bs) (Some (at + 1))) (quote_end q (at + 1) (c ∷ bs)) (cond (c == q) (quote_end q (at + 2) (take k bs)) (Some (at + 1))) (quote_end q (at + 1) (c ∷ take k bs)) e
@@ -180,12 +180,12 @@ named_test_cut n rest positive stands =
     ⊎_elim
     (λ test. same (stands_at n (is_prefix (slice_index rest 0) && nat_lt 1 end) (sized kind.Parameter end) stands test).0)
     (λ test. ⊎_elim
-      (λ prefix. ⊎_elim
-        (λ more. cc (sym test ∙ ap₂ (λ x y. x && y) prefix more))
-        (λ none. same (omega (arith, ltb-false 1 end none)))
-        (cases_Bool (nat_lt 1 end)))
-      (λ other. and_left (is_prefix (slice_index (take n rest) 0)) (nat_lt 1 (run_end run.Name 1 (drop 1 (take n rest)))) (front ∙ other) ∙ sym test)
-      (cases_Bool (is_prefix (slice_index rest 0))))
+    (λ prefix. ⊎_elim
+    (λ more. absurd (true≢false (sym (and_from (is_prefix (slice_index rest 0)) (nat_lt 1 end) prefix more) ∙ test)))
+    (λ none. same (omega (arith, ltb-false 1 end none)))
+    (cases_Bool (nat_lt 1 end)))
+    (λ other. and_left (is_prefix (slice_index (take n rest) 0)) (nat_lt 1 (run_end run.Name 1 (drop 1 (take n rest)))) (front ∙ other) ∙ sym test)
+    (cases_Bool (is_prefix (slice_index rest 0))))
     (cases_Bool (is_prefix (slice_index rest 0) && nat_lt 1 end))
 
 named_parameter_cut : FormCut named_parameter

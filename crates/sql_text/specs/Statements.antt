@@ -37,13 +37,13 @@ from_split split.NoMemory = fail.NoMemory
 abbrev pub IsClosed : Token → Type 0
 IsClosed token = is_unclosed token.kind ≡ false
 
--- closed pieces that stand side by side in a text are the pieces of what they join to
+-- closed pieces that stand side by side in a text, cut out of it and read alone, are the same pieces
 abbrev pub EachRunHasItsPieces : Type 0
-EachRunHasItsPieces = (sql : List ℕ) (before run after : List Token) → pieces sql ≡ before ++ run ++ after → All IsClosed run → pieces (joined run) ≡ run
+EachRunHasItsPieces = (sql : List ℕ) (before run after : List Token) → pieces sql ≡ before ++ run ++ after → All IsClosed run → pieces (slice_range sql (length (joined before)) (length (joined (before ++ run)))) ≡ run
 
--- a statement reads as its text: it is closed, and has the text's class and the values of its parameters
+-- a statement reads as its text: it is its own one statement, and has the text's class and the values of its parameters
 pub record ReadsAsItsText (sql statement : List ℕ) : Type 0 where
-  pub closed : unclosed_at statement ≡ None
+  pub itself : IsStatementOf statement statement
   pub class : class_of_text statement ≡ class_of_text sql
   pub values : (args : List Value) (named : List NamedArg) → bound statement args named ≡ bound sql args named
 

@@ -18,6 +18,5 @@ pub use pieces::{
 };
 pub use spans::{Span, SplitFail, each_piece_is_its_slice, split};
 pub use statements::{
-    StatementFail, each_run_has_its_pieces, each_statement_reads_as_its_text,
-    statement_of,
+    StatementFail, each_run_has_its_pieces, each_statement_reads_as_its_text, statement_of,
 };

@@ -33,7 +33,7 @@ impl From<SplitFail> for StatementFail {
     }
 }
 
-/// Closed pieces that stand side by side in a text are the pieces of what they join to.
+/// Closed pieces that stand side by side in a text, cut out of it and read alone, are the same pieces.
 pub fn each_run_has_its_pieces()
     ensures { EachRunHasItsPieces }
 {}
