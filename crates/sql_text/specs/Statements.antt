@@ -39,7 +39,9 @@ IsClosed token = is_unclosed token.kind ≡ false
 
 -- closed pieces that stand side by side in a text, cut out of it and read alone, are the same pieces
 abbrev pub EachRunHasItsPieces : Type 0
-EachRunHasItsPieces = (sql : List ℕ) (before run after : List Token) → pieces sql ≡ before ++ run ++ after → All IsClosed run → pieces (slice_range sql (length (joined before)) (length (joined (before ++ run)))) ≡ run
+EachRunHasItsPieces =
+    (sql : List ℕ) (before run after : List Token) → pieces sql ≡ before ++ run ++ after → All IsClosed run
+    → pieces (slice_range sql (length (joined before)) (length (joined (before ++ run)))) ≡ run
 
 -- a statement reads as its text: it is its own one statement, and has the text's class and the values of its parameters
 pub record ReadsAsItsText (sql statement : List ℕ) : Type 0 where

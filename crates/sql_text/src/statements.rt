@@ -38,8 +38,8 @@ pub fn each_run_has_its_pieces()
     ensures { EachRunHasItsPieces }
 {}
 
-/// The statement of a text that has one, read alone, is closed, and has the class of the text and the values of its
-/// parameters.
+/// The one statement of a text, read alone, is its own one statement, and has the class of the text and the values of
+/// its parameters.
 pub fn each_statement_reads_as_its_text()
     ensures { EachStatementReadsAsItsText }
 {}
