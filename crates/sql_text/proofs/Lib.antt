@@ -7,3 +7,5 @@ pub mod ParameterLemmas
 pub mod BindLemmas
 pub mod BoundaryLemmas
 pub mod BoundarySpans
+pub mod CutLemmas
+pub mod StatementLemmas

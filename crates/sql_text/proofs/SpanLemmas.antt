@@ -61,7 +61,7 @@ stands_is kind.Unclosed is = cc is
 abbrev solid : List Placed → List Placed
 solid ps = filter (λ p. is_solid (kind_of p)) ps
 
-abbrev cuts : List Placed → List (List Placed)
+abbrev pub cuts : List Placed → List (List Placed)
 cuts ps = cut kind_of (solid ps)
 
 -- the spans from here on, where a span stands open, or none

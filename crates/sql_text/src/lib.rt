@@ -7,6 +7,7 @@ mod class;
 mod parameters;
 mod pieces;
 mod spans;
+mod statements;
 #[cfg(test)]
 mod tests;
 
@@ -16,3 +17,6 @@ pub use pieces::{
     Kind, Piece, PlacedPiece, each_text_has_one_list_of_pieces, first_piece, piece_at,
 };
 pub use spans::{Span, SplitFail, each_piece_is_its_slice, split};
+pub use statements::{
+    StatementFail, each_run_has_its_pieces, each_statement_reads_as_its_text, statement_of,
+};

@@ -112,6 +112,38 @@ fn unclosed_texts_are_refused(rt: HostRuntime) -> Result<(), Fail> {
     Ok(())
 }
 
+#[test]
+fn statements_of_texts(rt: HostRuntime) -> Result<(), Fail> {
+    for (sql, statement) in [
+        ("SELECT 1", "SELECT 1"),
+        (" ; SELECT 1 -- x", "SELECT 1"),
+        ("'a;b';", "'a;b'"),
+        ("/* a */\nSELECT /* ; */ -1;; /* b */", "SELECT /* ; */ -1"),
+        ("-- a\nSELECT :;", "SELECT :"),
+        ("é -", "é -"),
+        ("COMMIT; -- 'x", "COMMIT"),
+    ] {
+        assert_eq!(rt; statement_of(rt.alloc(), sql), Ok(statement), "{sql}");
+    }
+    Ok(())
+}
+
+#[test]
+fn texts_of_no_one_statement(rt: HostRuntime) -> Result<(), Fail> {
+    for (sql, fail) in [
+        ("", StatementFail::Empty),
+        ("/* a */", StatementFail::Empty),
+        (" ;; -- x", StatementFail::Empty),
+        ("a;b", StatementFail::Many),
+        ("a;;b;c;", StatementFail::Many),
+        ("SELECT 'x", StatementFail::Unclosed { at: 7 }),
+        ("a; b; /* ", StatementFail::Unclosed { at: 6 }),
+    ] {
+        assert_eq!(rt; statement_of(rt.alloc(), sql), Err(fail), "{sql}");
+    }
+    Ok(())
+}
+
 // An integer, or nothing for null.
 fn integer_of(value: &Value) -> Option<i64> {
     match value {
