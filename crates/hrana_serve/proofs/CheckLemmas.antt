@@ -10,8 +10,7 @@ use Rattle.sql_text.specs.Binding.{bound}
 use Rattle.sql_text.specs.Class.{class_of_text}
 use Rattle.sql_text.specs.Spans.{spans_of, unclosed_at}
 use Rattle.engine_core.specs.Engine.{IsReadOrWrite}
-use Rattle.engine_core.specs.declared.statement.BoundStmt.{BoundStmt}
-use Rattle.hrana_serve.specs.Checks.{Ready, IsPassed, IsOneText, one_span, class_refused, with_values, ready_by_class, ready_of_text, ready_at, ready_of}
+use Rattle.hrana_serve.specs.Checks.{Ready, IsOneText, values_with, one_span, class_refused, with_values, ready_by_class, ready_of_text, ready_at, ready_of}
 use Rattle.hrana_serve.specs.declared.ask.Asked.{Asked}
 
 -- a class that isn't refused reads or writes
@@ -62,10 +61,9 @@ pub values_refused : (asked : Asked) (text : List ℕ) (code : Code) → IsOneTe
     → ((sql : List ℕ) (c : Class) → with_values sql c (bound text asked.args asked.named) ≡ Err code) → ready_of asked ≡ Err code
 values_refused asked text code is h refused = by_values asked text is h ∙ refused text (class_of_text text)
 
-pub passed : (asked : Asked) (stmt : BoundStmt) (text : List ℕ) → IsOneText asked.sql text → class_refused (class_of_text text) ≡ None → bound text asked.args asked.named ≡ Ok stmt.values
-    → stmt.sql ≡ text → stmt.class ≡ class_of_text text → IsPassed asked stmt
-passed asked stmt text is h values sql c = record {
-  ready = record { sql = text; class = class_of_text text; values = stmt.values };
-  passed = by_values asked text is h ∙ ap (with_values text (class_of_text text)) values;
-  is_ready = record { sql = sql; class = c; values = refl };
-}
+pub passed : (asked : Asked) (text sql : List ℕ) (c : Class) (values : Option (List Value)) → IsOneText asked.sql text → class_refused (class_of_text text) ≡ None
+    → bound text asked.args asked.named ≡ Ok (values_with values asked.args) → sql ≡ text → c ≡ class_of_text text → ready_of asked ≡ Ok (record { sql = sql; class = c; values = values_with values asked.args })
+passed asked text sql c values is h bound_as same classed =
+    by_values asked text is h ∙ ap (with_values text (class_of_text text)) bound_as
+    ∙ ap (λ s. Ok (record { sql = s; class = class_of_text text; values = values_with values asked.args })) (sym same)
+    ∙ ap (λ x. Ok (record { sql = sql; class = x; values = values_with values asked.args })) (sym classed)

@@ -1,5 +1,5 @@
 -- What came of an event, from what came of its parts.
-use Rattle.std.proofs.Common.{◌≡◌, ℕ, Bool, List, [], ◌∷◌, ◌++◌, Option, Some, Ok, Err, refl, subst, sym, true, false, ap}
+use Rattle.std.proofs.Common.{◌≡◌, ℕ, Bool, List, [], ◌∷◌, ◌++◌, Option, Some, Ok, Err, refl, subst, sym, true, false, ap, ◌∙◌}
 use Rattle.std.specs.Prelude.{slice_get, IsSomeAnd}
 use Rattle.engine_core.specs.declared.engine.Entry.{Entry}
 use Rattle.engine_core.specs.declared.engine.Entry.TheVariants.{Alone, Began, Ran, Denied, Ended, Failed}
@@ -7,7 +7,8 @@ use Rattle.engine_core.specs.declared.statement.BoundStmt.{BoundStmt}
 use Rattle.hrana_value.specs.declared.StreamNo.{StreamNo}
 use Rattle.hrana_serve.specs.Messages.{IsMessage}
 use Rattle.hrana_stmt.specs.declared.codes.Code.{Code}
-use Rattle.hrana_serve.specs.Checks.{Ready, IsReady, IsPassed, ready_of}
+use Rattle.hrana_serve.specs.Checks.{Ready, IsReady, IsPassed, IsBoundOf, ready_of, values_with}
+use Rattle.hrana_serve.specs.declared.checked.Checked.{Checked}
 use Rattle.hrana_serve.specs.Means.{IsEntryOf, IsEntryFor, reply_of, refusal_of}
 use Rattle.hrana_serve.specs.Step.{FitsMessage, PollsAsked, PollsFirst, Polls}
 use Rattle.hrana_serve.specs.State.{State}
@@ -48,14 +49,24 @@ polled s a rest ready e out p passed q r =
     subst (λ l. PollsFirst l s (e ∷ []) out (record s { asks = rest })) (sym p)
     (subst (λ x. PollsAsked x a rest s (e ∷ []) out (record s { asks = rest })) (sym passed) (record { entry = e; one = refl; is_entry = q; reply = r; left = refl }))
 
--- a run that had memory for its reply, and one that had none
-pub replied : (s : State) (a : Asked) (rest : List Asked) (b : BoundStmt) (e : Entry) (out : Out) → s.asks ≡ a ∷ rest → IsPassed a b → IsEntryFor b e
-    → out ≡ reply_of a e → FirstAs s (Gave (Some out)) (record s { asks = rest }) (e ∷ [])
-replied s a rest b e out p is q r = polled s a rest is.ready e (Some out) p is.passed (entry_of_passed is.ready b e is.is_ready q) (ap Some r)
+-- the statement that the engine is given is the one that passed
+ready_of_bound : (a : Asked) (checked : Checked) (b : BoundStmt) → IsPassed a checked → IsBoundOf checked a.args b → ready_of a ≡ Ok (record { sql = b.sql; class = b.class; values = b.values })
+ready_of_bound a checked b passed is =
+    passed ∙ ap (λ s. Ok (record { sql = s; class = checked.class; values = values_with checked.values a.args })) (sym is.sql)
+    ∙ ap (λ c. Ok (record { sql = b.sql; class = c; values = values_with checked.values a.args })) (sym is.class)
+    ∙ ap (λ v. Ok (record { sql = b.sql; class = b.class; values = v })) (sym is.values)
 
-pub lost : (s : State) (a : Asked) (rest : List Asked) (b : BoundStmt) (e : Entry) → s.asks ≡ a ∷ rest → IsPassed a b → IsEntryFor b e
+itself : (b : BoundStmt) → IsReady (record { sql = b.sql; class = b.class; values = b.values }) b
+itself b = record { sql = refl; class = refl; values = refl }
+
+-- a run that had memory for its reply, and one that had none
+pub replied : (s : State) (a : Asked) (rest : List Asked) (checked : Checked) (b : BoundStmt) (e : Entry) (out : Out) → s.asks ≡ a ∷ rest → IsPassed a checked → IsBoundOf checked a.args b → IsEntryFor b e
+    → out ≡ reply_of a e → FirstAs s (Gave (Some out)) (record s { asks = rest }) (e ∷ [])
+replied s a rest checked b e out p passed is q r = polled s a rest _ e (Some out) p (ready_of_bound a checked b passed is) (entry_of_passed _ b e (itself b) q) (ap Some r)
+
+pub lost : (s : State) (a : Asked) (rest : List Asked) (checked : Checked) (b : BoundStmt) (e : Entry) → s.asks ≡ a ∷ rest → IsPassed a checked → IsBoundOf checked a.args b → IsEntryFor b e
     → FirstAs s Lost (record s { asks = rest }) (e ∷ [])
-lost s a rest b e p is q = record { out = Some (reply_of a e); polls = polled s a rest is.ready e _ p is.passed (entry_of_passed is.ready b e is.is_ready q) refl }
+lost s a rest checked b e p passed is q = record { out = Some (reply_of a e); polls = polled s a rest _ e _ p (ready_of_bound a checked b passed is) (entry_of_passed _ b e (itself b) q) refl }
 
 -- a request that a check refuses
 pub refused : (s : State) (a : Asked) (rest : List Asked) (code : Code) (out : Out) → s.asks ≡ a ∷ rest → ready_of a ≡ Err code → out ≡ refusal_of a code
@@ -72,5 +83,5 @@ step_first s new stream Short added one came = came
 step_first s new stream Lost added one came = record { out = came.out; step = subst (λ n. Polls s n added came.out new) (sym one) came.polls }
 
 -- the oldest request that waits is the one that passed
-pub first_passed : (s : State) (a : Asked) (rest : List Asked) (stmt : BoundStmt) → s.asks ≡ a ∷ rest → IsFirstPassed s stmt → IsPassed a stmt
-first_passed s a rest stmt e p = subst (λ l. IsSomeAnd (slice_get l 0) (λ asked. IsPassed asked stmt)) e p
+pub first_passed : (s : State) (a : Asked) (rest : List Asked) (checked : Checked) → s.asks ≡ a ∷ rest → IsFirstPassed s checked → IsPassed a checked
+first_passed s a rest checked e p = subst (λ l. IsSomeAnd (slice_get l 0) (λ asked. IsPassed asked checked)) e p

@@ -12,8 +12,7 @@ use Rattle.engine_core.specs.declared.engine.Entry.TheVariants.{Alone, Began, Ra
 use Rattle.engine_core.specs.declared.engine.Answer.TheVariants.{Gave, Refused}
 use Rattle.engine_core.specs.declared.engine.Broken.TheVariants as broken
 use Rattle.hrana_serve.specs.Written.{ok_data, failed_data, opened_data, executed_data, message_of}
-use Rattle.hrana_serve.specs.Means.{reply_data, reply_of, shown}
-use Rattle.hrana_serve.specs.declared.ask.Asked.{Asked}
+use Rattle.hrana_serve.specs.Means.{reply_data, shown}
 use Rattle.hrana_serve.specs.declared.replies.Out.{Out}
 
 neither : (a b : Bool) → a ≡ false → b ≡ false → (a || b) ≡ false
@@ -35,16 +34,16 @@ of_opened id = of_ok id opened_data refl
 pub of_refusal : (id : ℤ) (code : Code) → has_float (failed_data id code) ≡ false
 of_refusal id code = of_failed id code
 
-of_reply : (a : Asked) (e : Entry) → has_float (reply_data a e) ≡ false
-of_reply a (Alone stream stmt (Gave given) wrote) = of_ok a.request_id (executed_data (shown a.want_rows given)) (neither _ _ (has_float-result_data (shown a.want_rows given)) refl)
-of_reply a (Alone stream stmt (Refused code) wrote) = of_failed a.request_id code
-of_reply a (Failed stream unit broken.Fault) = of_failed a.request_id EngineFault
-of_reply a (Failed stream unit broken.NoMemory) = of_failed a.request_id NoMemory
-of_reply a (Began unit stream) = refl
-of_reply a (Ran unit stmt answer) = refl
-of_reply a (Denied unit deny) = refl
-of_reply a (Ended unit how) = refl
+of_reply : (id : ℤ) (wanted : Bool) (e : Entry) → has_float (reply_data id wanted e) ≡ false
+of_reply id wanted (Alone stream stmt (Gave given) wrote) = of_ok id (executed_data (shown wanted given)) (neither _ _ (has_float-result_data (shown wanted given)) refl)
+of_reply id wanted (Alone stream stmt (Refused code) wrote) = of_failed id code
+of_reply id wanted (Failed stream unit broken.Fault) = of_failed id EngineFault
+of_reply id wanted (Failed stream unit broken.NoMemory) = of_failed id NoMemory
+of_reply id wanted (Began unit stream) = refl
+of_reply id wanted (Ran unit stmt answer) = refl
+of_reply id wanted (Denied unit deny) = refl
+of_reply id wanted (Ended unit how) = refl
 
 -- the message of a reply
-pub reply_is : (d : Data) (a : Asked) (e : Entry) → d ≡ reply_data a e → (out : Out) → (has_float d ≡ false → out ≡ message_of d) → out ≡ reply_of a e
-reply_is d a e p out h = subst (λ x. out ≡ message_of x) p (h (ap has_float p ∙ of_reply a e))
+pub reply_is : (d : Data) (id : ℤ) (wanted : Bool) (e : Entry) → d ≡ reply_data id wanted e → (out : Out) → (has_float d ≡ false → out ≡ message_of d) → out ≡ message_of (reply_data id wanted e)
+reply_is d id wanted e p out h = subst (λ x. out ≡ message_of x) p (h (ap has_float p ∙ of_reply id wanted e))

@@ -13,6 +13,7 @@ use Rattle.sql_text.specs.Class.{class_of_text}
 use Rattle.sql_text.specs.Spans.{spans_of, unclosed_at}
 use Rattle.engine_core.specs.declared.statement.BoundStmt.{BoundStmt}
 use Rattle.hrana_serve.specs.declared.ask.Asked.{Asked}
+use Rattle.hrana_serve.specs.declared.checked.Checked.{Checked}
 use Rattle.hrana_serve.specs.declared.checks.CheckFail.{CheckFail}
 use Rattle.hrana_serve.specs.declared.checks.CheckFail.TheVariants as check
 
@@ -68,11 +69,20 @@ pub record IsReady (ready : Ready) (stmt : BoundStmt) : Type 0 where
   pub class : stmt.class ≡ ready.class
   pub values : stmt.values ≡ ready.values
 
+-- the values of a checked statement: its own, or else the arguments of its request
+abbrev pub values_with : Option (List Value) → List Value → List Value
+values_with None args = args
+values_with (Some values) args = values
+
 -- the request passed its checks as this statement
-pub record IsPassed (asked : Asked) (stmt : BoundStmt) : Type 0 where
-  pub ready : Ready
-  pub passed : ready_of asked ≡ Ok ready
-  pub is_ready : IsReady ready stmt
+abbrev pub IsPassed : Asked → Checked → Type 0
+IsPassed asked checked = ready_of asked ≡ Ok (record { sql = checked.sql; class = checked.class; values = values_with checked.values asked.args })
+
+-- the statement that an engine is given is the checked one, over these arguments
+pub record IsBoundOf (checked : Checked) (args : List Value) (stmt : BoundStmt) : Type 0 where
+  pub sql : stmt.sql ≡ checked.sql
+  pub class : stmt.class ≡ checked.class
+  pub values : stmt.values ≡ values_with checked.values args
 
 -- the one statement of a text is this text
 pub record IsOneText (sql text : List ℕ) : Type 0 where
@@ -81,10 +91,10 @@ pub record IsOneText (sql text : List ℕ) : Type 0 where
   pub text_is : text ≡ slice_range sql span.start span.end
 
 -- what came of binding the arguments to a text
-abbrev pub BindsAs : Result (List Value) BindFail → Result (List Value) CheckFail → Type 0
-BindsAs expected (Ok values) = expected ≡ Ok values
-BindsAs expected (Err (check.Refused code)) = (sql : List ℕ) (c : Class) → with_values sql c expected ≡ Err code
-BindsAs expected (Err check.NoMemory) = Unit {0}
+abbrev pub BindsAs : Result (List Value) BindFail → List Value → Result (Option (List Value)) CheckFail → Type 0
+BindsAs expected args (Ok values) = expected ≡ Ok (values_with values args)
+BindsAs expected args (Err (check.Refused code)) = (sql : List ℕ) (c : Class) → with_values sql c expected ≡ Err code
+BindsAs expected args (Err check.NoMemory) = Unit {0}
 
 -- ---- transactions, whose statements are not run yet
 

@@ -55,17 +55,17 @@ abbrev pub broken_data : ℤ → Broken → Data
 broken_data id broken.Fault = failed_data id EngineFault
 broken_data id broken.NoMemory = failed_data id NoMemory
 
--- the reply to a request, by the entry that its poll added
-abbrev pub reply_data : Asked → Entry → Data
-reply_data asked (Alone stream stmt answer wrote) = answer_data asked.request_id asked.want_rows answer
-reply_data asked (Failed stream unit cause) = broken_data asked.request_id cause
-reply_data asked (Began unit stream) = null
-reply_data asked (Ran unit stmt answer) = null
-reply_data asked (Denied unit deny) = null
-reply_data asked (Ended unit how) = null
+-- the reply to the request of this id, whose rows are wanted or not, by the entry that its poll added
+abbrev pub reply_data : ℤ → Bool → Entry → Data
+reply_data id wanted (Alone stream stmt answer wrote) = answer_data id wanted answer
+reply_data id wanted (Failed stream unit cause) = broken_data id cause
+reply_data id wanted (Began unit stream) = null
+reply_data id wanted (Ran unit stmt answer) = null
+reply_data id wanted (Denied unit deny) = null
+reply_data id wanted (Ended unit how) = null
 
 abbrev pub reply_of : Asked → Entry → Out
-reply_of asked entry = message_of (reply_data asked entry)
+reply_of asked entry = message_of (reply_data asked.request_id asked.want_rows entry)
 
 -- the reply to a request that a check refuses
 abbrev pub refusal_of : Asked → Code → Out

@@ -11,6 +11,7 @@ use Rattle.hrana_serve.specs.State.{State}
 use Rattle.hrana_stmt.specs.declared.codes.Code.{Code}
 use Rattle.hrana_serve.specs.Checks.{IsPassed, ready_of}
 use Rattle.hrana_serve.specs.Step.{Step, Fits, FitsMessage, FitsText, Arrives, ArrivesText, PollsFirst}
+use Rattle.hrana_serve.specs.declared.checked.Checked.{Checked}
 use Rattle.hrana_serve.specs.declared.message.ClientMsg.{ClientMsg}
 use Rattle.hrana_serve.specs.declared.replies.Out.{Out}
 use Rattle.hrana_serve.specs.declared.hub.Stepped.{Stepped}
@@ -77,8 +78,8 @@ TextAs s text Lost new = ⊥
 -- ---- the oldest request that waits
 
 -- it passed its checks as this statement
-abbrev pub IsFirstPassed : State → BoundStmt → Type 0
-IsFirstPassed s stmt = IsSomeAnd (slice_get s.asks 0) (λ asked. IsPassed asked stmt)
+abbrev pub IsFirstPassed : State → Checked → Type 0
+IsFirstPassed s checked = IsSomeAnd (slice_get s.asks 0) (λ asked. IsPassed asked checked)
 
 -- a check refuses it with this code
 abbrev pub IsFirstRefused : State → Code → Type 0

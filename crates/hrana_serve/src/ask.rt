@@ -52,3 +52,19 @@ pub fn ask_of(request_id: i32, stmt: Stmt) -> Option<Asked>
         want_rows,
     })
 }
+
+impl Asked {
+    /// The positional arguments, with no copy.
+    pub fn into_args(self) -> Values
+        ensures { result ≡ self.args }
+    {
+        let Asked {
+            args,
+            request_id: _,
+            sql: _,
+            named: _,
+            want_rows: _,
+        } = self;
+        args
+    }
+}

@@ -4,13 +4,14 @@ ghost use Rattle.engine_core.specs.Engine.{IsReadOrWrite};
 ghost use Rattle.sql_text.specs.Spans.{spans_of, unclosed_at};
 ghost use Rattle.sql_text.specs.Binding.{bound};
 ghost use Rattle.hrana_stmt.specs.declared.codes.Code.{Code};
-ghost use Rattle.hrana_serve.specs.Checks.{IsPassed, IsOneText, BindsAs, one_span, class_refused, ready_of};
+ghost use Rattle.hrana_serve.specs.Checks.{IsPassed, IsBoundOf, IsOneText, BindsAs, one_span, class_refused, ready_of};
 
 use crate::ask::Asked;
+use crate::checked::Checked;
 use engine_core::BoundStmt;
 use hrana_stmt::Code;
 use hrana_value::{Txt, Values};
-use sql_text::{BindFail, Class, SplitFail, bind, class_of, split};
+use sql_text::{BindFail, Class, SplitFail, are_bound, bind, class_of, split};
 use std::alloc::Global;
 
 /// Why a request isn't run.
@@ -50,21 +51,26 @@ fn class_refused(class: Class) -> Option<Code>
     }
 }
 
-/// A value for each parameter of the text.
-fn values_of(alloc: Global, text: &str, asked: &Asked) -> Result<Values, CheckFail>
-    ensures { BindsAs (bound text.now asked.now.args asked.now.named) result }
+/// A value for each parameter of the text, but none where the arguments are these values: they need no copy.
+fn values_of(alloc: Global, text: &str, asked: &Asked) -> Result<Option<Values>, CheckFail>
+    ensures { BindsAs (bound text.now asked.now.args asked.now.named) asked.now.args result }
 {
-    match bind(alloc, text, asked.args.as_slice(), asked.named.as_slice()) {
-        Ok(values) => Ok(values),
+    let args = asked.args.as_slice();
+    let named = asked.named.as_slice();
+    if are_bound(text, args, named) {
+        return Ok(None);
+    }
+    match bind(alloc, text, args, named) {
+        Ok(values) => Ok(Some(values)),
         Err(BindFail::NoMemory) => Err(CheckFail::NoMemory),
         Err(_) => Err(CheckFail::Refused(Code::Args)),
     }
 }
 
-/// The statement of a request, as an engine is given it, or the first check that refuses it.
-pub fn check(alloc: Global, asked: &Asked) -> Result<BoundStmt, CheckFail>
+/// The statement of a request, or the first check that refuses it.
+pub fn check(alloc: Global, asked: &Asked) -> Result<Checked, CheckFail>
     ensures passed { IfOk result (IsPassed asked.now) }
-    ensures class { IfOk result (λ stmt. IsReadOrWrite stmt.class) }
+    ensures class { IfOk result (λ checked. IsReadOrWrite checked.class) }
     ensures refused { IfErr result (λ fail. (code : Code) → fail ≡ CheckFail.Refused code → ready_of asked.now ≡ Err code) }
 {
     let text = match one_text(alloc, asked.sql.as_str()) {
@@ -80,7 +86,19 @@ pub fn check(alloc: Global, asked: &Asked) -> Result<BoundStmt, CheckFail>
         Err(fail) => return Err(fail),
     };
     match Txt::new(alloc, text) {
-        Ok(sql) => Ok(BoundStmt { sql, class, values }),
+        Ok(sql) => Ok(Checked { sql, class, values }),
         Err(_) => Err(CheckFail::NoMemory),
+    }
+}
+
+/// The statement as an engine is given it.
+pub fn bound_of(checked: Checked, args: Values) -> BoundStmt
+    ensures { IsBoundOf checked args result }
+{
+    let Checked { sql, class, values } = checked;
+    BoundStmt {
+        sql,
+        class,
+        values: values.unwrap_or(args),
     }
 }

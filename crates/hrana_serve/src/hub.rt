@@ -9,7 +9,8 @@ ghost use Rattle.hrana_serve.specs.Stepped.{Adds, Executes, StepsAs, ArrivesAs, 
 ghost use Rattle.hrana_serve.specs.State.{first_state};
 
 use crate::ask::{Asked, ask_of};
-use crate::checks::{CheckFail, check};
+use crate::checked::Checked;
+use crate::checks::{CheckFail, bound_of, check};
 use crate::message::{ClientMsg, DecodeFail, decode_client};
 use crate::replies::{Out, hello_out, opened_out, refusal_out, reply_out};
 use crate::script::Event;
@@ -195,13 +196,13 @@ impl Hub {
         &mut self,
         engine: &mut E,
         entries: &mut Entries,
-        stmt: BoundStmt,
+        checked: Checked,
     ) -> Stepped
         requires room { 1 ≤ entries.old.spare }
         requires few { entries.old.next < 2 ^ 64 - 1 }
         requires quiet { NoneLive (E.live engine.old) }
-        requires class { IsReadOrWrite stmt.class }
-        requires passed { IsFirstPassed self.old stmt }
+        requires class { IsReadOrWrite checked.class }
+        requires passed { IsFirstPassed self.old checked }
         ensures adds { Adds E.told E.meaning (E.db engine.old) (E.db engine.new) (E.faults engine.old) (E.faults engine.new)
             entries.old.list entries.new.list (FirstAs self.old result self.new) }
         ensures quiet { NoneLive (E.live engine.new) }
@@ -211,9 +212,10 @@ impl Hub {
         let Some(asked) = self.asks.pop_front() else {
             return Stepped::Gave(None);
         };
-        let entry = run_alone(engine, stmt);
-        let out = reply_out(self.alloc, &asked, &entry);
-        drop(asked);
+        let request_id = asked.request_id;
+        let want_rows = asked.want_rows;
+        let entry = run_alone(engine, bound_of(checked, asked.into_args()));
+        let out = reply_out(self.alloc, request_id, want_rows, &entry);
         entries.push(entry);
         match out {
             Ok(out) => Stepped::Gave(Some(out)),
@@ -259,7 +261,7 @@ impl Hub {
             return Stepped::Gave(None);
         };
         match check(self.alloc, asked) {
-            Ok(stmt) => self.run_first(engine, entries, stmt),
+            Ok(checked) => self.run_first(engine, entries, checked),
             Err(CheckFail::Refused(code)) => self.refuse_first(code),
             Err(CheckFail::NoMemory) => Stepped::Short,
         }

@@ -2,6 +2,7 @@
 #![tactic(auto)]
 
 mod ask;
+mod checked;
 mod checks;
 mod hub;
 mod laws;

@@ -4,9 +4,8 @@ ghost use Rattle.serde_json.specs.View.{view};
 ghost use Rattle.serde_json.specs.Written.{has_float};
 ghost use Rattle.hrana_stmt.specs.Written.{result_data};
 ghost use Rattle.hrana_serve.specs.Written.{hello_data, ok_data, failed_data, opened_data, executed_data, message_of, print_line};
-ghost use Rattle.hrana_serve.specs.Means.{reply_data, reply_of, shown};
+ghost use Rattle.hrana_serve.specs.Means.{reply_data, shown};
 
-use crate::ask::Asked;
 use engine_core::{Answer, Broken, Entry};
 use hrana_stmt::{Code, Rows, StmtResult, error_to_json, result_to_json, wire_error};
 use hrana_value::{NoMemory, Txt};
@@ -81,14 +80,13 @@ fn executed_to_json(alloc: Global, want_rows: bool, given: &StmtResult) -> Resul
 }
 
 /// The reply to a statement, by the entry that its poll added.
-fn reply_to_json(alloc: Global, asked: &Asked, entry: &Entry) -> Result<Json, NoMemory>
-    ensures { IfOk result (λ json. view json ≡ reply_data asked.now entry.now) }
+fn reply_to_json(alloc: Global, id: i32, want_rows: bool, entry: &Entry) -> Result<Json, NoMemory>
+    ensures { IfOk result (λ json. view json ≡ reply_data id want_rows entry.now) }
 {
-    let id = asked.request_id;
     match entry {
         Entry::Alone { answer, .. } => match answer {
             Answer::Gave(given) => {
-                let executed = executed_to_json(alloc, asked.want_rows, given)?;
+                let executed = executed_to_json(alloc, want_rows, given)?;
                 ok_to_json(alloc, id, executed)
             }
             Answer::Refused(code) => failed_to_json(alloc, id, *code),
@@ -112,11 +110,11 @@ fn message(alloc: Global, json: &Json) -> Result<Out, NoMemory>
     })
 }
 
-/// The reply to a request, by the entry that its poll added.
-pub fn reply_out(alloc: Global, asked: &Asked, entry: &Entry) -> Result<Out, NoMemory>
-    ensures { IfOk result (λ out. out ≡ reply_of asked.now entry.now) }
+/// The reply to the request of this id, by the entry that its poll added.
+pub fn reply_out(alloc: Global, id: i32, want_rows: bool, entry: &Entry) -> Result<Out, NoMemory>
+    ensures { IfOk result (λ out. out ≡ message_of (reply_data id want_rows entry.now)) }
 {
-    let json = reply_to_json(alloc, asked, entry)?;
+    let json = reply_to_json(alloc, id, want_rows, entry)?;
     message(alloc, &json)
 }
 

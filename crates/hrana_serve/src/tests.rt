@@ -189,23 +189,72 @@ fn play_statement(alloc: Global, stmt: &str) -> Result<(Ended, ByteSink), NoMemo
 fn checks_are_answered_by_the_poll(rt: HostRuntime) -> Result<(), Fail> {
     let alloc = rt.alloc();
     for (stmt, code, message, entries) in [
-        ("{\"sql\":\"SAVEPOINT 'x\"}", "SQL_OPEN", "quote or comment is not closed", 0),
-        ("{\"sql\":\" ; -- x\"}", "NO_STATEMENT", "text holds no statement", 0),
-        ("{\"sql\":\"PRAGMA x; PRAGMA y\"}", "MANY_STATEMENTS", "text holds more than one statement", 0),
-        ("{\"sql\":\"rollback to a\"}", "SAVEPOINT_UNSUPPORTED", "savepoints are not supported", 0),
-        ("{\"sql\":\"SAVEPOINT ?\"}", "SAVEPOINT_UNSUPPORTED", "savepoints are not supported", 0),
-        ("{\"sql\":\"PRAGMA x = ?\"}", "SQL_UNSUPPORTED", "statement is not supported", 0),
-        ("{\"sql\":\"SELECT ?257\"}", "ARGS", "arguments do not match parameters", 0),
-        ("{\"sql\":\"INSERT INTO t VALUES (?)\"}", "ARGS", "arguments do not match parameters", 0),
+        (
+            "{\"sql\":\"SAVEPOINT 'x\"}",
+            "SQL_OPEN",
+            "quote or comment is not closed",
+            0,
+        ),
+        (
+            "{\"sql\":\" ; -- x\"}",
+            "NO_STATEMENT",
+            "text holds no statement",
+            0,
+        ),
+        (
+            "{\"sql\":\"PRAGMA x; PRAGMA y\"}",
+            "MANY_STATEMENTS",
+            "text holds more than one statement",
+            0,
+        ),
+        (
+            "{\"sql\":\"rollback to a\"}",
+            "SAVEPOINT_UNSUPPORTED",
+            "savepoints are not supported",
+            0,
+        ),
+        (
+            "{\"sql\":\"SAVEPOINT ?\"}",
+            "SAVEPOINT_UNSUPPORTED",
+            "savepoints are not supported",
+            0,
+        ),
+        (
+            "{\"sql\":\"PRAGMA x = ?\"}",
+            "SQL_UNSUPPORTED",
+            "statement is not supported",
+            0,
+        ),
+        (
+            "{\"sql\":\"SELECT ?257\"}",
+            "ARGS",
+            "arguments do not match parameters",
+            0,
+        ),
+        (
+            "{\"sql\":\"INSERT INTO t VALUES (?)\"}",
+            "ARGS",
+            "arguments do not match parameters",
+            0,
+        ),
         (
             "{\"sql\":\"INSERT INTO t VALUES (?)\",\"args\":[{\"type\":\"null\"},{\"type\":\"null\"}]}",
-            "ARGS", "arguments do not match parameters", 0,
+            "ARGS",
+            "arguments do not match parameters",
+            0,
         ),
         (
             "{\"sql\":\"SELECT a FROM t\",\"named_args\":[{\"name\":\"a\",\"value\":{\"type\":\"null\"}}]}",
-            "ARGS", "arguments do not match parameters", 0,
+            "ARGS",
+            "arguments do not match parameters",
+            0,
         ),
-        ("{\"sql\":\"SELECT b FROM t\"}", "SYNTAX", "statement is not understood", 1),
+        (
+            "{\"sql\":\"SELECT b FROM t\"}",
+            "SYNTAX",
+            "statement is not understood",
+            1,
+        ),
     ] {
         let (ended, sink) = play_statement(alloc, stmt)?;
         let wanted = format!(in alloc;

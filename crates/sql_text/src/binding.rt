@@ -1,5 +1,5 @@
 // The values that arguments give the parameters of a text.
-ghost use Rattle.std.specs.Prelude.{◌≡◌, ◌<◌, ◌≤◌, ◌+◌, ◌-◌, ℕ, List, None, length, is_some, slice_index_or, slice_get, IfOk, IfErr, IfSome};
+ghost use Rattle.std.specs.Prelude.{◌≡◌, ◌<◌, ◌≤◌, ◌+◌, ◌-◌, ℕ, List, None, length, is_some, slice_index_or, slice_get, IfOk, IfErr, IfSome, IsTrue, Ok};
 ghost use Rattle.std.specs.Bool.{OnTrue};
 ghost use Rattle.std.specs.Option.{option_or, option_copied};
 ghost use Rattle.std.specs.List.{list_all};
@@ -186,5 +186,18 @@ pub fn bind(
     match read_parameters(sql.as_bytes()) {
         Ok(parameters) => bind_numbered(alloc, parameters.as_slice(), args, named),
         Err(fail) => Err(fail),
+    }
+}
+
+/// Whether the arguments are the values of the text's parameters as they stand: all are positional, one for each number.
+/// Then they need no copy. Takes no memory.
+pub fn are_bound(sql: &str, args: &[Value], named: &[NamedArg]) -> bool
+    ensures { IsTrue result → bound sql.now args.now named.now ≡ Ok args.now }
+{
+    match read_parameters(sql.as_bytes()) {
+        Ok(parameters) => {
+            named.is_empty() && args.len() == usize::from(greatest(parameters.as_slice()))
+        }
+        Err(_) => false,
     }
 }

@@ -11,7 +11,7 @@ mod statements;
 #[cfg(test)]
 mod tests;
 
-pub use binding::{BindFail, bind};
+pub use binding::{BindFail, are_bound, bind};
 pub use class::{Class, Mode, class_of};
 pub use pieces::{
     Kind, Piece, PlacedPiece, each_text_has_one_list_of_pieces, first_piece, piece_at,

@@ -19,10 +19,10 @@ returns-in-Err-values_of-clause-refused c = λ code e.
     let one : IsOneText c.args.asked.now.sql c.in-Ok.text.now = search rules in
     let fine : class_refused (class_of_text c.in-Ok.text.now) ≡ None = search rules in
     values_refused c.args.asked.now c.in-Ok.text.now code one fine
-    (subst (λ f. BindsAs (bound c.in-Ok.text.now c.args.asked.now.args c.args.asked.now.named) (Err f)) e c.in-Err-values_of.ensures)
+    (subst (λ f. BindsAs (bound c.in-Ok.text.now c.args.asked.now.args c.args.asked.now.named) c.args.asked.now.args (Err f)) e c.in-Err-values_of.ensures)
 
 pub returns-in-Ok-new-clause-passed : goal.returns-in-Ok-new-clause-passed
 returns-in-Ok-new-clause-passed c =
     let one : IsOneText c.args.asked.now.sql c.in-Ok.text.now = search rules in
     let fine : class_refused (class_of_text c.in-Ok.text.now) ≡ None = search rules in
-    passed c.args.asked.now _ c.in-Ok.text.now one fine c.in-Ok-values_of.ensures c.in-Ok-new.ensures c.class_of-class.ensures
+    passed c.args.asked.now c.in-Ok.text.now c.in-Ok-new.sql c.class_of-class.result c.in-Ok-values_of.values one fine c.in-Ok-values_of.ensures c.in-Ok-new.ensures c.class_of-class.ensures
