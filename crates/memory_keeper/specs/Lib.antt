@@ -1,0 +1,5 @@
+pub mod Values
+pub mod Each
+pub mod Formulas
+pub mod Tables
+pub mod Exec
