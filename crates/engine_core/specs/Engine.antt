@@ -1,7 +1,8 @@
 -- What an engine does, and when it may fail.
-use Rattle.std.specs.Prelude.{◌≡◌, ℕ, Bool, true, false, ◌⊎◌, Option, Some, None, Result, Ok, Err, IsTrue}
+use Rattle.std.specs.Prelude.{◌≡◌, ℕ, Bool, true, false, ◌||◌, ◌⊎◌, Option, Some, None, Result, Ok, Err, IsTrue}
 use Rattle.serial_order.specs.Serial.{Meaning}
 use Rattle.engine_core.specs.Causes.{Rose}
+use Rattle.engine_core.specs.Transactions.{View, Lives, Became}
 use Rattle.hrana_stmt.specs.declared.results.StmtResult.{StmtResult}
 use Rattle.hrana_stmt.specs.declared.codes.Code.{Code}
 use Rattle.hrana_stmt.specs.declared.codes.Code.TheVariants as code
@@ -65,6 +66,18 @@ abbrev pub RunsAlone : {D : Type 0} → Bool → Meaning D BoundStmt Answer → 
 RunsAlone told m old new stmt (Some given) = HasRunAlone told m old new stmt given
 RunsAlone told m old new stmt None = new ≡ old
 
+-- A statement ran in the transaction n, on its view. The start of the view stays.
+pub record HasRunIn {D : Type 0} (told : Bool) (m : Meaning D BoundStmt Answer) (old new : Lives D) (n : ℕ) (stmt : BoundStmt) (given : Answer) : Type 0 where
+  pub was : View D
+  pub is : old n ≡ Some was
+  pub answer : IsTrue told → given ≡ (m.exec was.view stmt).1
+  pub now : Became old new n (Some (record { start = was.start; view = (m.exec was.view stmt).0; is_writer = was.is_writer || m.is_write stmt }))
+
+-- what a call of `run` leaves, by its answer: where the engine broke, the transaction is gone
+abbrev pub RunsIn : {D : Type 0} → Bool → Meaning D BoundStmt Answer → Lives D → Lives D → ℕ → BoundStmt → Option Answer → Type 0
+RunsIn told m old new n stmt (Some given) = HasRunIn told m old new n stmt given
+RunsIn told m old new n stmt None = Became old new n None
+
 -- the codes that an engine may refuse a statement with
 abbrev pub is_engine_code : Code → Bool
 is_engine_code code.FloatUnsupported = true
@@ -85,6 +98,13 @@ RefusesByCode (Ok given) = Unit {0}
 RefusesByCode (Err (fail.Refused code)) = IsTrue (is_engine_code code)
 RefusesByCode (Err fail.Fault) = Unit {0}
 RefusesByCode (Err fail.NoMemory) = Unit {0}
+
+-- beginning and committing are never refused
+abbrev pub IsNoRefusal : {T : Type 0} → Result T EngineFail → Type 0
+IsNoRefusal (Ok given) = Unit {0}
+IsNoRefusal (Err (fail.Refused code)) = ⊥
+IsNoRefusal (Err fail.Fault) = Unit {0}
+IsNoRefusal (Err fail.NoMemory) = Unit {0}
 
 -- A fault comes only where the count rose. So does a refusal by an engine that doesn't tell.
 abbrev pub HasEngineCause : {T : Type 0} → Bool → ℕ → ℕ → Result T EngineFail → Type 0

@@ -1,6 +1,8 @@
 pub mod Causes
 pub mod Bytes
 pub mod Engine
+pub mod Results
+pub mod Transactions
 pub mod Journal
 pub mod Listed
 pub mod Noted

@@ -1,5 +1,5 @@
 -- The calls of an object in memory that fail: their numbers are listed, counted from 1 over all calls of the object.
-use Rattle.std.specs.Prelude.{ℕ, ◌+◌, ◌-◌, ◌^◌, min, List, Contains}
+use Rattle.std.specs.Prelude.{◌≡◌, ◌↔◌, ℕ, ◌+◌, ◌-◌, ◌^◌, min, List, Contains, Bool, IsTrue}
 use Rattle.engine_core.specs.declared.memory.ByteSource.{ByteSource}
 use Rattle.engine_core.specs.declared.memory.ByteSink.{ByteSink}
 use Rattle.engine_core.specs.declared.failing.Failing.{Failing}
@@ -21,3 +21,9 @@ engine_calls f = record { fail_at = f.fail_at.items; calls = f.calls }
 -- the next call fails. The count of calls stays at its last value once it is there.
 abbrev pub FailsNext : Listed → Type 0
 FailsNext l = Contains l.fail_at (min (l.calls + 1) (2 ^ 64 - 1))
+
+-- the next call was counted, and is one that fails exactly where it is listed
+pub record FailsAsListed (old new : Listed) (fails : Bool) : Type 0 where
+  pub same : new.fail_at ≡ old.fail_at
+  pub counted : new.calls ≡ min (old.calls + 1) (2 ^ 64 - 1)
+  pub exact : IsTrue fails ↔ FailsNext old

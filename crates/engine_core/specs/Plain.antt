@@ -1,11 +1,14 @@
 -- The meaning of the plain keeper's two statements, over the list of the values of its one column.
-use Rattle.std.specs.Prelude.{◌≡◌, ℕ, Result, Ok, Err, IsTrue, Bool, true, false, ◌+◌, ◌-◌, ◌^◌, nat_lt, nat_le, ◌&&◌, List, [], ◌∷◌, ◌++◌, length, map, sum_by, pos, Some, None, codes, nat_eq, if◌then◌else◌}
+use Rattle.std.specs.Prelude.{◌≡◌, ℕ, Result, Ok, Err, IsTrue, Bool, true, false, ◌+◌, ◌-◌, ◌^◌, nat_lt, nat_le, ◌&&◌, List, [], ◌∷◌, ◌++◌, length, map, sum_by, pos, Option, Some, None, codes, nat_eq, if◌then◌else◌}
 use Rattle.std.specs.Cmp.Lexicographic.{pointwise}
 use Rattle.hrana_value.specs.declared.value.Value.{Value}
 use Rattle.hrana_value.specs.declared.value.Value.TheVariants.{Null, Integer, Text, Blob}
 use Rattle.hrana_stmt.specs.declared.results.StmtResult.{StmtResult}
 use Rattle.hrana_stmt.specs.declared.codes.Code.TheVariants.{Syntax, ResultTooLarge, Overflow}
 use Rattle.engine_core.specs.Engine.{is_write, is_engine_code}
+use Rattle.engine_core.specs.Results.{values_size}
+use Rattle.engine_core.specs.Transactions.{Single}
+use Rattle.engine_core.specs.declared.plain.Running.{Running}
 use Rattle.engine_core.specs.declared.plain.Kind.{Kind}
 use Rattle.engine_core.specs.declared.plain.Kind.TheVariants.{Insert, Select, Other}
 use Rattle.engine_core.specs.declared.engine.Answer.{Answer}
@@ -24,16 +27,6 @@ select_text = codes "SELECT a FROM t"
 abbrev pub first_value : List Value → Value
 first_value [] = Null
 first_value (value ∷ values) = value
-
--- how much a value counts in a result, in bytes
-abbrev pub value_size : Value → ℕ
-value_size Null = 8
-value_size (Integer number) = 8
-value_size (Text text) = 8 + length text
-value_size (Blob bytes) = 8 + length bytes
-
-abbrev pub values_size : List Value → ℕ
-values_size values = sum_by value_size values
 
 -- a result has at most 4,096 rows and 1,048,576 bytes of values
 abbrev pub fits_result : List Value → Bool
@@ -74,3 +67,8 @@ RunsAs outcome old (Ok given) new = outcome ≡ (new, Gave given)
 RunsAs outcome old (Err (fail.Refused code)) new = (outcome ≡ (new, Refused code)) × (new ≡ old) × IsTrue (is_engine_code code)
 RunsAs outcome old (Err fail.Fault) new = ⊥
 RunsAs outcome old (Err fail.NoMemory) new = new ≡ old
+
+-- the one transaction that may live
+abbrev pub single_of : Option Running → Option (Single (List Value))
+single_of None = None
+single_of (Some t) = Some (record { number = t.txn; own = t.column; writing = t.writes })

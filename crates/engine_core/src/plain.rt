@@ -1,7 +1,9 @@
 // The plainest engine: one table `t` with one column `a`, and two statements.
-ghost use Rattle.std.specs.Prelude.{◌≡◌, ◌≤◌, ◌+◌, ◌^◌, ◌∷◌, true, refl, [], map, IfOk};
+ghost use Rattle.std.specs.Prelude.{◌≡◌, ◌≤◌, ◌+◌, ◌^◌, ◌∷◌, true, false, refl, [], map, IfOk};
 ghost use Rattle.engine_core.specs.Engine.{is_write};
-ghost use Rattle.engine_core.specs.Plain.{RunsAs, plain_insert, plain_select, kind_of, first_value, value_size, fits_result, selected, exec_kind};
+ghost use Rattle.engine_core.specs.Plain.{RunsAs, plain_insert, plain_select, kind_of, first_value, fits_result, selected, exec_kind, plain_exec, single_of};
+ghost use Rattle.engine_core.specs.Results.{value_size, IsSmall};
+ghost use Rattle.engine_core.specs.Transactions.{NoneLive, lives_of};
 ghost use Rattle.engine_core.specs.PlainMeaning.{plain_meaning};
 
 use crate::{BoundStmt, Class, Engine, EngineFail};
@@ -23,15 +25,26 @@ const MAX_ROWID: usize = 9223372036854775806;
 pub struct PlainKeeper {
     alloc: Global,
     column: Values,
+    running: Option<Running>,
+}
+
+// The one transaction that may live.
+#[derive(Drop)]
+struct Running {
+    txn: u64,
+    column: Values,
+    writes: bool,
 }
 
 impl PlainKeeper {
     pub fn new(alloc: Global) -> Result<PlainKeeper, NoMemory>
-        ensures { IfOk result (λ k. ⟦<PlainKeeper as Engine>⟧.db k ≡ []) }
+        ensures database { IfOk result (λ k. ⟦<PlainKeeper as Engine>⟧.db k ≡ []) }
+        ensures none_lives { IfOk result (λ k. NoneLive (⟦<PlainKeeper as Engine>⟧.live k)) }
     {
         Ok(PlainKeeper {
             alloc,
             column: Values::new(alloc),
+            running: None,
         })
     }
 }
@@ -79,7 +92,8 @@ fn value_of(alloc: Global, values: &[Value]) -> Result<Value, NoMemory>
 }
 
 fn insert(alloc: Global, column: &mut Values, values: &[Value]) -> Result<StmtResult, EngineFail>
-    ensures { RunsAs (plain_insert column.old values.now) column.old result column.new }
+    ensures runs { RunsAs (plain_insert column.old values.now) column.old result column.new }
+    ensures small { IfOk result IsSmall }
 {
     if column.as_slice().len() >= MAX_ROWID {
         return Err(EngineFail::Refused(Code::Overflow));
@@ -163,7 +177,8 @@ fn result_of(alloc: Global, column: &[Value]) -> Result<StmtResult, NoMemory>
 }
 
 fn select(alloc: Global, column: &[Value]) -> Result<StmtResult, EngineFail>
-    ensures { RunsAs (plain_select column.now) column.now result column.now }
+    ensures runs { RunsAs (plain_select column.now) column.now result column.now }
+    ensures small { IfOk result IsSmall }
 {
     if !fits(column) {
         return Err(EngineFail::Refused(Code::ResultTooLarge));
@@ -181,7 +196,8 @@ fn run_kind(
     column: &mut Values,
     values: &[Value],
 ) -> Result<StmtResult, EngineFail>
-    ensures { RunsAs (exec_kind kind column.old values.now) column.old result column.new }
+    ensures runs { RunsAs (exec_kind kind column.old values.now) column.old result column.new }
+    ensures small { IfOk result IsSmall }
 {
     match kind {
         Kind::Insert => insert(alloc, column, values),
@@ -190,8 +206,19 @@ fn run_kind(
     }
 }
 
+/// Runs a statement on a column.
+fn run_text(alloc: Global, column: &mut Values, stmt: &BoundStmt) -> Result<StmtResult, EngineFail>
+    ensures runs { RunsAs (plain_exec column.old stmt.now) column.old result column.new }
+    ensures small { IfOk result IsSmall }
+{
+    let kind = kind_of_text(writes(stmt.class), stmt.sql.as_str());
+    run_kind(alloc, kind, column, stmt.values.as_slice())
+}
+
 impl Engine for PlainKeeper {
     const SHARED: bool = false;
+
+    ghost SHARED = { false };
 
     type Db = Values;
 
@@ -201,6 +228,8 @@ impl Engine for PlainKeeper {
 
     ghost db = { λ k. k.column };
 
+    ghost live = { λ k. lives_of k.column (single_of k.running) };
+
     ghost faults = { λ _. 0 };
 
     ghost reads = { λ _. refl };
@@ -209,8 +238,43 @@ impl Engine for PlainKeeper {
 
     ghost refusals = { λ _. refl };
 
+    fn begin(&mut self, txn: u64, write: bool) -> Result<(), EngineFail> {
+        let Ok(column) = self.column.copy(self.alloc) else {
+            return Err(EngineFail::NoMemory);
+        };
+        self.running = Some(Running {
+            txn,
+            column,
+            writes: write,
+        });
+        Ok(())
+    }
+
+    fn run(&mut self, _txn: u64, stmt: &BoundStmt) -> Result<StmtResult, EngineFail> {
+        let Some(mut running) = self.running.take() else {
+            unreachable!();
+        };
+        let result = run_text(self.alloc, &mut running.column, stmt);
+        if let Err(EngineFail::NoMemory) = result {
+            return result;
+        }
+        running.writes = running.writes || writes(stmt.class);
+        self.running = Some(running);
+        result
+    }
+
+    fn commit(&mut self, _txn: u64) -> Result<(), EngineFail> {
+        if let Some(running) = self.running.take() {
+            self.column = running.column;
+        }
+        Ok(())
+    }
+
+    fn drop_txn(&mut self, _txn: u64) {
+        self.running = None;
+    }
+
     fn alone(&mut self, stmt: &BoundStmt) -> Result<StmtResult, EngineFail> {
-        let kind = kind_of_text(writes(stmt.class), stmt.sql.as_str());
-        run_kind(self.alloc, kind, &mut self.column, stmt.values.as_slice())
+        run_text(self.alloc, &mut self.column, stmt)
     }
 }

@@ -1,9 +1,10 @@
 // What no clause says: that calls succeed, printed texts, and the limits, by values from the documents.
 ghost use Rattle.std.specs.Prelude.{IfOk, IsTrue};
 ghost use Rattle.engine_core.specs.Engine.{IsReadOrWrite};
+ghost use Rattle.engine_core.specs.Transactions.{NoneLive};
 
 use crate::*;
-use hrana_stmt::Code;
+use hrana_stmt::{Code, StmtResult};
 use hrana_value::{Bytes, StreamNo, Txt, Value, Values};
 use sql_text::class_of;
 use std::alloc::Global;
@@ -40,6 +41,44 @@ fn statement(alloc: Global, sql: &str, value: Value) -> Result<BoundStmt, NoMemo
     })
 }
 
+/// An engine with no live transaction.
+struct Idle<E: Engine> {
+    engine: E,
+    ghost quiet: { NoneLive (E.live engine) },
+}
+
+impl<E: Engine> Idle<E> {
+    fn alone(&mut self, stmt: &BoundStmt) -> Result<StmtResult, EngineFail>
+        requires { IsReadOrWrite stmt.now.class }
+    {
+        self.engine.alone(stmt)
+    }
+
+    /// Runs a statement in a transaction, which is then committed or dropped.
+    #[tactic(auto, using(crate::proofs::TransactionLemmas::NoneLive_gone, crate::proofs::TransactionLemmas::NoneLive_same))]
+    fn transact(&mut self, stmt: &BoundStmt, commit: bool) -> Result<StmtResult, EngineFail>
+        requires { IsReadOrWrite stmt.now.class }
+    {
+        self.engine.begin(1, true)?;
+        let answer = self.engine.run(1, stmt);
+        match answer {
+            Ok(given) => {
+                if commit {
+                    self.engine.commit(1)?;
+                } else {
+                    self.engine.drop_txn(1);
+                }
+                Ok(given)
+            }
+            Err(EngineFail::Refused(code)) => {
+                self.engine.drop_txn(1);
+                Err(EngineFail::Refused(code))
+            }
+            Err(fail) => Err(fail),
+        }
+    }
+}
+
 #[test]
 fn statuses_have_numbers_and_texts(rt: HostRuntime) -> Result<(), Fail> {
     for (status, number, text) in [
@@ -60,7 +99,9 @@ fn statuses_have_numbers_and_texts(rt: HostRuntime) -> Result<(), Fail> {
 #[test]
 fn plain_keeper_runs_two_statements(rt: HostRuntime) -> Result<(), Fail> {
     let alloc = rt.alloc();
-    let mut keeper = PlainKeeper::new(alloc)?;
+    let mut keeper = Idle {
+        engine: PlainKeeper::new(alloc)?,
+    };
     for rowid in [1, 2] {
         let given = keeper.alone(&statement(alloc, INSERT, Value::Integer(5))?)?;
         assert_eq!(rt; given.affected, 1);
@@ -94,7 +135,9 @@ fn plain_keeper_runs_two_statements(rt: HostRuntime) -> Result<(), Fail> {
 #[test]
 fn plain_keeper_limits_rows(rt: HostRuntime) -> Result<(), Fail> {
     let alloc = rt.alloc();
-    let mut keeper = PlainKeeper::new(alloc)?;
+    let mut keeper = Idle {
+        engine: PlainKeeper::new(alloc)?,
+    };
     let insert = statement(alloc, INSERT, Value::Null)?;
     let select = statement(alloc, SELECT, Value::Null)?;
     for _ in 0..4096 {
@@ -112,7 +155,9 @@ fn plain_keeper_limits_rows(rt: HostRuntime) -> Result<(), Fail> {
 #[test]
 fn plain_keeper_limits_bytes(rt: HostRuntime) -> Result<(), Fail> {
     let alloc = rt.alloc();
-    let mut keeper = PlainKeeper::new(alloc)?;
+    let mut keeper = Idle {
+        engine: PlainKeeper::new(alloc)?,
+    };
     let select = statement(alloc, SELECT, Value::Null)?;
     // A blob counts 8 and its length, so that one is 1,048,576 bytes.
     let blob = Value::Blob(Bytes::from_vec(vec![in alloc; 0u8; 1048568]?));
@@ -139,12 +184,37 @@ fn listed_calls_fail(rt: HostRuntime) -> Result<(), Fail> {
         assert_eq!(rt; sink.write(b"ab"), wanted);
     }
     assert_eq!(rt; sink.bytes(), b"abab".as_slice());
-    let mut engine = Failing::new(alloc, PlainKeeper::new(alloc)?, &[1, 3])?;
+    let mut engine = Idle {
+        engine: Failing::new(alloc, PlainKeeper::new(alloc)?, &[1, 3, 5, 8])?,
+    };
     let insert = statement(alloc, INSERT, Value::Null)?;
     assert_eq!(rt; engine.alone(&insert).err(), Some(EngineFail::Fault));
     assert_eq!(rt; engine.alone(&insert)?.last_rowid, Some(1));
     assert_eq!(rt; engine.alone(&insert).err(), Some(EngineFail::Fault));
     assert_eq!(rt; engine.alone(&insert)?.last_rowid, Some(2));
+    // Beginning fails, then the commit, which is the third call of the next transaction.
+    for _ in 0..2 {
+        assert_eq!(rt;
+            engine.transact(&insert, true).err(),
+            Some(EngineFail::Fault)
+        );
+    }
+    assert_eq!(rt; engine.transact(&insert, true)?.last_rowid, Some(3));
+    Ok(())
+}
+
+#[test]
+fn a_commit_puts_the_view_in_place(rt: HostRuntime) -> Result<(), Fail> {
+    let alloc = rt.alloc();
+    let insert = statement(alloc, INSERT, Value::Null)?;
+    let select = statement(alloc, SELECT, Value::Null)?;
+    let mut keeper = Idle {
+        engine: PlainKeeper::new(alloc)?,
+    };
+    assert_eq!(rt; keeper.transact(&insert, false)?.last_rowid, Some(1));
+    assert_eq!(rt; keeper.alone(&select)?.rows.as_slice().len(), 0);
+    assert_eq!(rt; keeper.transact(&insert, true)?.last_rowid, Some(1));
+    assert_eq!(rt; keeper.alone(&select)?.rows.as_slice().len(), 1);
     Ok(())
 }
 

@@ -1,8 +1,9 @@
 -- No two codes share a name.
-use Rattle.std.proofs.Common.{◌≡◌, ℕ, ◌<◌, List, [], ◌∷◌, length, get_or, refl, sym, ◌∙◌, ap, lit<}
+use Rattle.std.proofs.Common.{◌≡◌, ℕ, ◌<◌, List, [], ◌∷◌, length, get_or, map, refl, sym, ◌∙◌, ap, lit<}
 use Rattle.hrana_value.proofs.NameLemmas.{all_differ-get_or}
 use Rattle.hrana_stmt.specs.declared.codes.Code.{Code}
 use Rattle.hrana_stmt.specs.declared.codes.Code.TheVariants.{FloatUnsupported, DescribeUnsupported, UnknownRequest, BadStep, BadRequest, Auth, StreamNotOpen, StreamExists, TooManyStreams, StreamLost, CursorNotOpen, CursorExists, CursorOpen, SqlIdInUse, NoSqlId, TooManyTexts, BatonDead, NoToken, NoMemory, SqlOpen, NoStatement, ManyStatements, SavepointUnsupported, SqlUnsupported, Args, TxnOpen, NoTxn, Busy, EngineFault, SqlRefused, Syntax, NoTable, NoColumn, TableExists, Constraint, BadType, Overflow, ResultTooLarge}
+use Rattle.hrana_stmt.specs.declared.codes.TheConstants.{CODE_NAMES}
 use Rattle.hrana_stmt.specs.Codes.{name_of, CodesDiffer}
 
 -- the place of a code in the table
@@ -50,7 +51,7 @@ abbrev all_codes : List Code
 all_codes = FloatUnsupported ∷ DescribeUnsupported ∷ UnknownRequest ∷ BadStep ∷ BadRequest ∷ Auth ∷ StreamNotOpen ∷ StreamExists ∷ TooManyStreams ∷ StreamLost ∷ CursorNotOpen ∷ CursorExists ∷ CursorOpen ∷ SqlIdInUse ∷ NoSqlId ∷ TooManyTexts ∷ BatonDead ∷ NoToken ∷ NoMemory ∷ SqlOpen ∷ NoStatement ∷ ManyStatements ∷ SavepointUnsupported ∷ SqlUnsupported ∷ Args ∷ TxnOpen ∷ NoTxn ∷ Busy ∷ EngineFault ∷ SqlRefused ∷ Syntax ∷ NoTable ∷ NoColumn ∷ TableExists ∷ Constraint ∷ BadType ∷ Overflow ∷ ResultTooLarge ∷ []
 
 abbrev all_names : List (List ℕ)
-all_names = name_of FloatUnsupported ∷ name_of DescribeUnsupported ∷ name_of UnknownRequest ∷ name_of BadStep ∷ name_of BadRequest ∷ name_of Auth ∷ name_of StreamNotOpen ∷ name_of StreamExists ∷ name_of TooManyStreams ∷ name_of StreamLost ∷ name_of CursorNotOpen ∷ name_of CursorExists ∷ name_of CursorOpen ∷ name_of SqlIdInUse ∷ name_of NoSqlId ∷ name_of TooManyTexts ∷ name_of BatonDead ∷ name_of NoToken ∷ name_of NoMemory ∷ name_of SqlOpen ∷ name_of NoStatement ∷ name_of ManyStatements ∷ name_of SavepointUnsupported ∷ name_of SqlUnsupported ∷ name_of Args ∷ name_of TxnOpen ∷ name_of NoTxn ∷ name_of Busy ∷ name_of EngineFault ∷ name_of SqlRefused ∷ name_of Syntax ∷ name_of NoTable ∷ name_of NoColumn ∷ name_of TableExists ∷ name_of Constraint ∷ name_of BadType ∷ name_of Overflow ∷ name_of ResultTooLarge ∷ []
+all_names = map (λ row. row.now) CODE_NAMES
 
 code_at : (c : Code) → get_or all_codes (place c) FloatUnsupported ≡ c
 code_at FloatUnsupported = refl

@@ -13,38 +13,11 @@ use Rattle.hrana_value.proofs.TreeLemmas.{ValueTree-one, ValueTree-none}
 use Rattle.hrana_value.proofs.ItemsLemmas.{ArrayTree-one}
 use Rattle.hrana_value.proofs.ArrayLemmas.{ArrayTree-none}
 use Rattle.hrana_value.proofs.PartLemmas.{OptionalTree-one, OptionalTree-none, TextTree-none, Int64TextTree-one, Int64TextTree-none, WholeStands-none}
-use Rattle.hrana_value.proofs.DeclineLemmas.{Reads-weaken, NoneStands-parts}
+use Rattle.hrana_value.proofs.DeclineLemmas.{NoneStands-parts}
 use Rattle.hrana_stmt.specs.Tree.{ObjectStands, ColTree, ColStands, RowTree, RowStands, StmtResultTree, StmtResultStands, WireErrorTree, WireErrorStands, NoTreeIsTwoResults, NoTreeIsTwoErrors, ResultsAreRead, ErrorsAreRead}
-use Rattle.hrana_stmt.specs.Parts.{ColPartsTree, ResultPartsTree, ResultPartsStand, ErrorPartsTree}
 use Rattle.hrana_stmt.specs.declared.results.Col.{Col}
 use Rattle.hrana_stmt.specs.declared.results.StmtResult.{StmtResult}
 use Rattle.hrana_stmt.specs.declared.errors.WireError.{WireError}
-
--- ---- readings
-
-pub col_read : (t name : Data) (r : Result Col ReadFail) → name ≡ part_at (codes "name") t → Reads (λ c. ColPartsTree c t name) (EitherStands (ObjectStands t) (OptionalStands TextStands name)) r
-    → Reads (λ c. ColTree c t) (ColStands t) r
-col_read t name r p reads =
-    Reads-weaken (λ c. ColPartsTree c t (part_at (codes "name") t)) (λ c. ColTree c t) (ColStands t) r (λ c h. record { is_object = h.0; name = h.1 })
-    (subst (λ d. Reads (λ c. ColPartsTree c t d) (EitherStands (ObjectStands t) (OptionalStands TextStands d)) r) p reads)
-
-pub error_read : (t message code : Data) (r : Result WireError ReadFail) → message ≡ part_at (codes "message") t → code ≡ part_at (codes "code") t
-    → Reads (λ e. ErrorPartsTree e message code) (EitherStands (TextStands message) (OptionalStands TextStands code)) r → Reads (λ e. WireErrorTree e t) (WireErrorStands t) r
-error_read t message code r p q reads =
-    let by_message = subst (λ d. Reads (λ e. ErrorPartsTree e d code) (EitherStands (TextStands d) (OptionalStands TextStands code)) r) p reads in
-    let by_both = subst (λ d. Reads (λ e. ErrorPartsTree e (part_at (codes "message") t) d) (EitherStands (TextStands (part_at (codes "message") t)) (OptionalStands TextStands d)) r) q by_message in
-    Reads-weaken (λ e. ErrorPartsTree e (part_at (codes "message") t) (part_at (codes "code") t)) (λ e. WireErrorTree e t) (WireErrorStands t) r (λ e h. record { message = h.0; code = h.1 }) by_both
-
-pub result_read : (t cols rows affected rowid : Data) (r : Result StmtResult ReadFail) → cols ≡ part_at (codes "cols") t → rows ≡ part_at (codes "rows") t → affected ≡ part_at (codes "affected_row_count") t
-    → rowid ≡ part_at (codes "last_insert_rowid") t → Reads (λ s. ResultPartsTree s cols rows affected rowid) (ResultPartsStand cols rows affected rowid) r → Reads (λ s. StmtResultTree s t) (StmtResultStands t) r
-result_read t cols rows affected rowid r p q u v reads =
-    let c = part_at (codes "cols") t in let w = part_at (codes "rows") t in let a = part_at (codes "affected_row_count") t in let i = part_at (codes "last_insert_rowid") t in
-    let by_cols = subst (λ d. Reads (λ s. ResultPartsTree s d rows affected rowid) (ResultPartsStand d rows affected rowid) r) p reads in
-    let by_rows = subst (λ d. Reads (λ s. ResultPartsTree s c d affected rowid) (ResultPartsStand c d affected rowid) r) q by_cols in
-    let by_affected = subst (λ d. Reads (λ s. ResultPartsTree s c w d rowid) (ResultPartsStand c w d rowid) r) u by_rows in
-    let by_all = subst (λ d. Reads (λ s. ResultPartsTree s c w a d) (ResultPartsStand c w a d) r) v by_affected in
-    Reads-weaken (λ s. ResultPartsTree s c w a i) (λ s. StmtResultTree s t) (StmtResultStands t) r
-    (λ s h. record { cols = h.lists.0; rows = h.lists.1; affected = h.numbers.0; last_rowid = h.numbers.1 }) by_all
 
 -- ---- a tree is one of at most one result or error
 

@@ -1,17 +1,12 @@
 -- Forms of messages by the parts of an object.
 use Rattle.std.specs.Prelude.{◌≡◌, Bool}
 use Rattle.serde_json.specs.Data.{Data, null}
-use Rattle.hrana_value.specs.Members.{TextTree, Int32Tree, Uint64Tree, Uint64Stands}
-use Rattle.hrana_value.specs.Tree.{ValueTree, OptionalValuesTree, Int64TextTree, Int64TextStands}
+use Rattle.hrana_value.specs.Members.{TextTree, Int32Tree}
+use Rattle.hrana_value.specs.Tree.{OptionalValuesTree}
 use Rattle.hrana_value.specs.Declines.{EitherStands}
-use Rattle.hrana_value.specs.Trees.{ArrayTree, ArrayStands, OptionalTree, OptionalStands}
-use Rattle.hrana_stmt.specs.declared.results.Col.{Col}
-use Rattle.hrana_stmt.specs.declared.results.StmtResult.{StmtResult}
-use Rattle.hrana_stmt.specs.declared.errors.WireError.{WireError}
 use Rattle.hrana_value.specs.declared.failures.Decline.{Decline}
-use Rattle.hrana_stmt.specs.Tree.{SqlTree, SqlStands, ObjectStands, WantsRowsTree, WantsRowsStands, OptionalNamedArgsTree, ArgumentsStand, IsObject, ColTree, ColStands, RowTree, RowStands}
+use Rattle.hrana_stmt.specs.Tree.{SqlTree, SqlStands, ObjectStands, WantsRowsTree, WantsRowsStands, OptionalNamedArgsTree, ArgumentsStand}
 use Rattle.hrana_stmt.specs.declared.statements.Stmt.{Stmt}
-use Rattle.hrana_stmt.specs.declared.statements.NamedArg.{NamedArg}
 use Rattle.hrana_stmt.specs.declared.statements.SqlRef.{SqlRef}
 use Rattle.hrana_stmt.specs.declared.statements.SqlRef.TheVariants.{Text, Id}
 
@@ -19,10 +14,6 @@ use Rattle.hrana_stmt.specs.declared.statements.SqlRef.TheVariants.{Text, Id}
 abbrev pub SqlPartsTree : SqlRef → Data → Data → Type 0
 SqlPartsTree (Text s) sql id = TextTree s sql × (id ≡ null)
 SqlPartsTree (Id z) sql id = Int32Tree z id × (sql ≡ null)
-
--- `NamedArgTree` of the parts `name` and `value`
-abbrev pub NamedArgPartsTree : NamedArg → Data → Data → Type 0
-NamedArgPartsTree a name value = TextTree a.name name × ValueTree a.value value
 
 -- `sql` or `sql_id` of an object, and its part `want_rows`
 abbrev pub HeadTree : SqlRef → Bool → Data → Data → Type 0
@@ -38,19 +29,3 @@ HeadStands t want_rows = EitherStands (EitherStands (ObjectStands t) (SqlStands 
 
 abbrev pub StmtPartsStand : Data → Data → Data → Data → Decline → Type 0
 StmtPartsStand t args named want_rows = EitherStands (HeadStands t want_rows) (ArgumentsStand args named)
-
--- ---- results and errors
-
-abbrev pub ColPartsTree : Col → Data → Data → Type 0
-ColPartsTree c t name = IsObject t × OptionalTree TextTree c.name name
-
-pub record ResultPartsTree (r : StmtResult) (cols rows affected rowid : Data) : Type 0 where
-  pub lists : ArrayTree ColTree r.cols cols × ArrayTree RowTree r.rows rows
-  pub numbers : Uint64Tree r.affected affected × OptionalTree Int64TextTree r.last_rowid rowid
-
-abbrev pub ResultPartsStand : Data → Data → Data → Data → Decline → Type 0
-ResultPartsStand cols rows affected rowid =
-    EitherStands (EitherStands (ArrayStands ColStands cols) (ArrayStands RowStands rows)) (EitherStands (Uint64Stands affected) (OptionalStands Int64TextStands rowid))
-
-abbrev pub ErrorPartsTree : WireError → Data → Data → Type 0
-ErrorPartsTree e message code = TextTree e.message message × OptionalTree TextTree e.code code

@@ -6,14 +6,13 @@ ghost use Rattle.serde_json.specs.View.{view, items_view};
 ghost use Rattle.hrana_value.specs.Declines.{Reads, Only, EitherStands};
 ghost use Rattle.hrana_value.specs.Members.{TextStands};
 ghost use Rattle.hrana_value.specs.Tree.{ValueStands, OptionalValuesTree};
-ghost use Rattle.hrana_stmt.specs.Parts.{NamedArgPartsTree};
 ghost use Rattle.hrana_value.specs.Trees.{ItemsStand};
 ghost use Rattle.hrana_value.specs.declared.failures.Decline.TheVariants.{Range};
 ghost use Rattle.hrana_stmt.specs.Tree.{NamedArgTree, NamedArgStands, NamedArgsTree, OptionalNamedArgsTree, OptionalNamedArgsStand, count_of, ArgumentsStand};
 
 use crate::{NamedArg, NamedArgs};
 use hrana_value::{
-    Decline, NoMemory, ReadFail, Values, both, member, optional_values_of_json, text_of_json,
+    Decline, NoMemory, ReadFail, Values, both, members, optional_values_of_json, text_of_json,
     value_of_json, value_to_json, with_item,
 };
 use serde_json::{Map, Value as Json, json, put};
@@ -22,24 +21,14 @@ use std::alloc::Global;
 /// The most arguments of a statement, both kinds together.
 pub const ARGUMENT_LIMIT: usize = 256;
 
-fn named_arg_of_parts(alloc: Global, name: &Json, value: &Json) -> Result<NamedArg, ReadFail>
-    ensures { Reads (λ a. NamedArgPartsTree a (view name.now) (view value.now)) (EitherStands (TextStands (view name.now)) (ValueStands (view value.now))) result }
-{
-    match both(text_of_json(alloc, name), value_of_json(alloc, value)) {
-        Ok((name, value)) => Ok(NamedArg { name, value }),
-        Err(fail) => Err(fail),
-    }
-}
-
 fn named_arg_of_json(alloc: Global, json: &Json) -> Result<NamedArg, ReadFail>
     ensures { Reads (λ a. NamedArgTree a (view json.now)) (NamedArgStands (view json.now)) result }
 {
-    let null = Json::Null;
-    named_arg_of_parts(
-        alloc,
-        member(json, "name", &null),
-        member(json, "value", &null),
-    )
+    members!(json; name = "name": text_of_json(alloc), value = "value": value_of_json(alloc));
+    match both(name, value) {
+        Ok((name, value)) => Ok(NamedArg { name, value }),
+        Err(fail) => Err(fail),
+    }
 }
 
 fn named_args_of_json(alloc: Global, items: &[Json]) -> Result<NamedArgs, ReadFail>

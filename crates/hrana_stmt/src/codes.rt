@@ -1,5 +1,8 @@
-ghost use Rattle.std.specs.Prelude.{◌≡◌};
+ghost use Rattle.std.specs.Prelude.{◌≡◌, map};
+ghost use Rattle.hrana_value.specs.Names.{RowsDiffer};
 ghost use Rattle.hrana_stmt.specs.Codes.{name_of, message_of, CodesDiffer};
+
+use hrana_value::name;
 
 /// Why a request is refused.
 #[derive(Clone, Copy, Debug, PartialEq, Eq)]
@@ -44,97 +47,113 @@ pub enum Code {
     ResultTooLarge,
 }
 
+/// The codes as they are sent, in the order of `Code`.
+pub const CODE_NAMES: [&str; 38] = [
+    "FLOAT_UNSUPPORTED",
+    "DESCRIBE_UNSUPPORTED",
+    "UNKNOWN_REQUEST",
+    "BAD_STEP",
+    "BAD_REQUEST",
+    "AUTH",
+    "STREAM_NOT_OPEN",
+    "STREAM_EXISTS",
+    "TOO_MANY_STREAMS",
+    "STREAM_LOST",
+    "CURSOR_NOT_OPEN",
+    "CURSOR_EXISTS",
+    "CURSOR_OPEN",
+    "SQL_ID_IN_USE",
+    "NO_SQL_ID",
+    "TOO_MANY_TEXTS",
+    "BATON_DEAD",
+    "NO_TOKEN",
+    "NO_MEMORY",
+    "SQL_OPEN",
+    "NO_STATEMENT",
+    "MANY_STATEMENTS",
+    "SAVEPOINT_UNSUPPORTED",
+    "SQL_UNSUPPORTED",
+    "ARGS",
+    "TXN_OPEN",
+    "NO_TXN",
+    "BUSY",
+    "ENGINE_FAULT",
+    "SQL_REFUSED",
+    "SYNTAX",
+    "NO_TABLE",
+    "NO_COLUMN",
+    "TABLE_EXISTS",
+    "CONSTRAINT",
+    "TYPE",
+    "OVERFLOW",
+    "RESULT_TOO_LARGE",
+];
+
+/// The messages that are sent with the codes, in the order of `Code`.
+pub const CODE_MESSAGES: [&str; 38] = [
+    "float values are not supported",
+    "describe is not supported",
+    "unknown request type",
+    "condition names a step that is not earlier",
+    "malformed request",
+    "authentication failed",
+    "stream is not open",
+    "stream id is in use",
+    "too many streams",
+    "stream was lost",
+    "cursor is not open",
+    "cursor id is in use",
+    "stream has an open cursor",
+    "sql id is in use",
+    "sql id is not stored",
+    "too many stored texts",
+    "baton is not valid",
+    "no token could be drawn",
+    "out of memory",
+    "quote or comment is not closed",
+    "text holds no statement",
+    "text holds more than one statement",
+    "savepoints are not supported",
+    "statement is not supported",
+    "arguments do not match parameters",
+    "a transaction is open",
+    "no transaction is open",
+    "database is locked",
+    "engine failed",
+    "engine refused the statement",
+    "statement is not understood",
+    "no such table",
+    "no such column",
+    "table exists",
+    "primary key constraint failed",
+    "operand is not an integer",
+    "integer overflow",
+    "result is too large",
+];
+
 /// The code as it is sent.
 pub fn code_name(code: Code) -> &'static str
     ensures { result.now ≡ name_of code }
 {
-    match code {
-        Code::FloatUnsupported => "FLOAT_UNSUPPORTED",
-        Code::DescribeUnsupported => "DESCRIBE_UNSUPPORTED",
-        Code::UnknownRequest => "UNKNOWN_REQUEST",
-        Code::BadStep => "BAD_STEP",
-        Code::BadRequest => "BAD_REQUEST",
-        Code::Auth => "AUTH",
-        Code::StreamNotOpen => "STREAM_NOT_OPEN",
-        Code::StreamExists => "STREAM_EXISTS",
-        Code::TooManyStreams => "TOO_MANY_STREAMS",
-        Code::StreamLost => "STREAM_LOST",
-        Code::CursorNotOpen => "CURSOR_NOT_OPEN",
-        Code::CursorExists => "CURSOR_EXISTS",
-        Code::CursorOpen => "CURSOR_OPEN",
-        Code::SqlIdInUse => "SQL_ID_IN_USE",
-        Code::NoSqlId => "NO_SQL_ID",
-        Code::TooManyTexts => "TOO_MANY_TEXTS",
-        Code::BatonDead => "BATON_DEAD",
-        Code::NoToken => "NO_TOKEN",
-        Code::NoMemory => "NO_MEMORY",
-        Code::SqlOpen => "SQL_OPEN",
-        Code::NoStatement => "NO_STATEMENT",
-        Code::ManyStatements => "MANY_STATEMENTS",
-        Code::SavepointUnsupported => "SAVEPOINT_UNSUPPORTED",
-        Code::SqlUnsupported => "SQL_UNSUPPORTED",
-        Code::Args => "ARGS",
-        Code::TxnOpen => "TXN_OPEN",
-        Code::NoTxn => "NO_TXN",
-        Code::Busy => "BUSY",
-        Code::EngineFault => "ENGINE_FAULT",
-        Code::SqlRefused => "SQL_REFUSED",
-        Code::Syntax => "SYNTAX",
-        Code::NoTable => "NO_TABLE",
-        Code::NoColumn => "NO_COLUMN",
-        Code::TableExists => "TABLE_EXISTS",
-        Code::Constraint => "CONSTRAINT",
-        Code::BadType => "TYPE",
-        Code::Overflow => "OVERFLOW",
-        Code::ResultTooLarge => "RESULT_TOO_LARGE",
-    }
+    name(&CODE_NAMES, code as usize)
 }
 
 /// The message that is sent with the code.
 pub fn code_message(code: Code) -> &'static str
     ensures { result.now ≡ message_of code }
 {
-    match code {
-        Code::FloatUnsupported => "float values are not supported",
-        Code::DescribeUnsupported => "describe is not supported",
-        Code::UnknownRequest => "unknown request type",
-        Code::BadStep => "condition names a step that is not earlier",
-        Code::BadRequest => "malformed request",
-        Code::Auth => "authentication failed",
-        Code::StreamNotOpen => "stream is not open",
-        Code::StreamExists => "stream id is in use",
-        Code::TooManyStreams => "too many streams",
-        Code::StreamLost => "stream was lost",
-        Code::CursorNotOpen => "cursor is not open",
-        Code::CursorExists => "cursor id is in use",
-        Code::CursorOpen => "stream has an open cursor",
-        Code::SqlIdInUse => "sql id is in use",
-        Code::NoSqlId => "sql id is not stored",
-        Code::TooManyTexts => "too many stored texts",
-        Code::BatonDead => "baton is not valid",
-        Code::NoToken => "no token could be drawn",
-        Code::NoMemory => "out of memory",
-        Code::SqlOpen => "quote or comment is not closed",
-        Code::NoStatement => "text holds no statement",
-        Code::ManyStatements => "text holds more than one statement",
-        Code::SavepointUnsupported => "savepoints are not supported",
-        Code::SqlUnsupported => "statement is not supported",
-        Code::Args => "arguments do not match parameters",
-        Code::TxnOpen => "a transaction is open",
-        Code::NoTxn => "no transaction is open",
-        Code::Busy => "database is locked",
-        Code::EngineFault => "engine failed",
-        Code::SqlRefused => "engine refused the statement",
-        Code::Syntax => "statement is not understood",
-        Code::NoTable => "no such table",
-        Code::NoColumn => "no such column",
-        Code::TableExists => "table exists",
-        Code::Constraint => "primary key constraint failed",
-        Code::BadType => "operand is not an integer",
-        Code::Overflow => "integer overflow",
-        Code::ResultTooLarge => "result is too large",
-    }
+    name(&CODE_MESSAGES, code as usize)
 }
+
+/// No two rows of the table of codes have one name.
+pub fn code_names_differ()
+    ensures { RowsDiffer (map (λ row. row.now) CODE_NAMES) }
+{}
+
+/// No two rows of the table of messages have one text.
+pub fn code_messages_differ()
+    ensures { RowsDiffer (map (λ row. row.now) CODE_MESSAGES) }
+{}
 
 /// No two codes share a name.
 pub fn codes_differ()

@@ -1,38 +1,24 @@
 // Errors from JSON trees and back.
 ghost use Rattle.serde_json.specs.View.{view};
-ghost use Rattle.hrana_value.specs.Declines.{Reads, EitherStands};
-ghost use Rattle.hrana_value.specs.Members.{TextStands};
-ghost use Rattle.hrana_value.specs.Trees.{OptionalStands};
+ghost use Rattle.hrana_value.specs.Declines.{Reads};
 ghost use Rattle.hrana_stmt.specs.Tree.{WireErrorTree, WireErrorStands, NoTreeIsTwoErrors, ErrorsAreRead};
-ghost use Rattle.hrana_stmt.specs.Parts.{ErrorPartsTree};
 ghost use Rattle.std.specs.Prelude.{◌≡◌, IfOk};
 ghost use Rattle.hrana_stmt.specs.Written.{optional_text, error_data};
 
 use crate::WireError;
-use hrana_value::{NoMemory, ReadFail, Txt, both, member, optional_text_of_json, text_of_json};
+use hrana_value::{NoMemory, ReadFail, Txt, both, members, optional_text_of_json, text_of_json};
 use serde_json::{Map, Value as Json, json, put};
 use std::alloc::Global;
-
-fn error_of_parts(alloc: Global, message: &Json, code: &Json) -> Result<WireError, ReadFail>
-    ensures { Reads (λ e. ErrorPartsTree e (view message.now) (view code.now)) (EitherStands (TextStands (view message.now)) (OptionalStands TextStands (view code.now))) result }
-{
-    let message = text_of_json(alloc, message);
-    match both(message, optional_text_of_json(alloc, code)) {
-        Ok((message, code)) => Ok(WireError { message, code }),
-        Err(fail) => Err(fail),
-    }
-}
 
 /// Reads an error: `message`, and an optional `code`.
 pub fn error_of_json(alloc: Global, json: &Json) -> Result<WireError, ReadFail>
     ensures { Reads (λ e. WireErrorTree e (view json.now)) (WireErrorStands (view json.now)) result }
 {
-    let null = Json::Null;
-    error_of_parts(
-        alloc,
-        member(json, "message", &null),
-        member(json, "code", &null),
-    )
+    members!(json; message = "message": text_of_json(alloc), code = "code": optional_text_of_json(alloc));
+    match both(message, code) {
+        Ok((message, code)) => Ok(WireError { message, code }),
+        Err(fail) => Err(fail),
+    }
 }
 
 /// Writes a string, and null for none.

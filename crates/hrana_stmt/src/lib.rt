@@ -12,7 +12,10 @@ mod statement_json;
 mod statements;
 
 pub use arguments::ARGUMENT_LIMIT;
-pub use codes::{Code, code_message, code_name, codes_differ};
+pub use codes::{
+    CODE_MESSAGES, CODE_NAMES, Code, code_message, code_messages_differ, code_name,
+    code_names_differ, codes_differ,
+};
 pub use error_json::{
     error_of_json, error_to_json, errors_are_read, no_tree_is_two_errors, optional_text_to_json,
 };

@@ -4,7 +4,6 @@ ghost use Rattle.hrana_value.specs.Declines.{Reads, EitherStands};
 ghost use Rattle.hrana_value.specs.Members.{TextStands};
 ghost use Rattle.hrana_value.specs.Trees.{ItemsTree, ItemsStand, ArrayTree, ArrayStands, OptionalTree, OptionalStands};
 ghost use Rattle.hrana_stmt.specs.Tree.{ObjectStands, ColTree, ColStands, RowTree, RowStands, StmtResultTree, StmtResultStands, NoTreeIsTwoResults, ResultsAreRead};
-ghost use Rattle.hrana_stmt.specs.Parts.{ColPartsTree, ResultPartsTree, ResultPartsStand};
 ghost use Rattle.std.specs.Prelude.{◌≡◌, ◌<◌, ◌^◌, IfOk, Some};
 ghost use Rattle.serde_json.specs.Data.{string};
 ghost use Rattle.std.specs.Fmt.{signed_decimal};
@@ -14,26 +13,20 @@ ghost use Rattle.hrana_stmt.specs.Written.{col_data, cols_data, row_data, rows_d
 use crate::error_json::optional_text_to_json;
 use crate::{Col, Cols, Rows, StmtResult, object_of_json};
 use hrana_value::{
-    Decline, NoMemory, ReadFail, Values, both, member, optional_int64_text_of_json,
+    Decline, NoMemory, ReadFail, Values, both, members, optional_int64_text_of_json,
     optional_text_of_json, uint64_of_json, values_of_json, values_to_json, with_item,
 };
 use serde_json::{Map, Value as Json, put};
 use std::alloc::Global;
 
-fn col_of_parts(alloc: Global, json: &Json, name: &Json) -> Result<Col, ReadFail>
-    ensures { Reads (λ c. ColPartsTree c (view json.now) (view name.now)) (EitherStands (ObjectStands (view json.now)) (OptionalStands TextStands (view name.now))) result }
-{
-    match both(object_of_json(json), optional_text_of_json(alloc, name)) {
-        Ok((_, name)) => Ok(Col { name }),
-        Err(fail) => Err(fail),
-    }
-}
-
 fn col_of_json(alloc: Global, json: &Json) -> Result<Col, ReadFail>
     ensures { Reads (λ c. ColTree c (view json.now)) (ColStands (view json.now)) result }
 {
-    let null = Json::Null;
-    col_of_parts(alloc, json, member(json, "name", &null))
+    members!(json; name = "name": optional_text_of_json(alloc));
+    match both(object_of_json(json), name) {
+        Ok((_, name)) => Ok(Col { name }),
+        Err(fail) => Err(fail),
+    }
 }
 
 fn cols_of_items(alloc: Global, items: &[Json]) -> Result<Cols, ReadFail>
@@ -91,17 +84,17 @@ fn rows_of_json(alloc: Global, json: &Json) -> Result<Rows, ReadFail>
     }
 }
 
-fn result_of_parts(
-    alloc: Global,
-    cols: &Json,
-    rows: &Json,
-    affected: &Json,
-    rowid: &Json,
-) -> Result<StmtResult, ReadFail>
-    ensures { Reads (λ r. ResultPartsTree r (view cols.now) (view rows.now) (view affected.now) (view rowid.now)) (ResultPartsStand (view cols.now) (view rows.now) (view affected.now) (view rowid.now)) result }
+/// Reads a result: `cols`, `rows`, `affected_row_count`, and an optional `last_insert_rowid`.
+pub fn result_of_json(alloc: Global, json: &Json) -> Result<StmtResult, ReadFail>
+    ensures { Reads (λ r. StmtResultTree r (view json.now)) (StmtResultStands (view json.now)) result }
 {
-    let numbers = both(uint64_of_json(affected), optional_int64_text_of_json(rowid));
-    let lists = both(cols_of_json(alloc, cols), rows_of_json(alloc, rows));
+    members!(json;
+        cols = "cols": cols_of_json(alloc),
+        rows = "rows": rows_of_json(alloc),
+        affected = "affected_row_count": uint64_of_json(),
+        last_rowid = "last_insert_rowid": optional_int64_text_of_json());
+    let lists = both(cols, rows);
+    let numbers = both(affected, last_rowid);
     match both(lists, numbers) {
         Ok((lists, numbers)) => Ok(StmtResult {
             cols: lists.0,
@@ -111,20 +104,6 @@ fn result_of_parts(
         }),
         Err(fail) => Err(fail),
     }
-}
-
-/// Reads a result: `cols`, `rows`, `affected_row_count`, and an optional `last_insert_rowid`.
-pub fn result_of_json(alloc: Global, json: &Json) -> Result<StmtResult, ReadFail>
-    ensures { Reads (λ r. StmtResultTree r (view json.now)) (StmtResultStands (view json.now)) result }
-{
-    let null = Json::Null;
-    result_of_parts(
-        alloc,
-        member(json, "cols", &null),
-        member(json, "rows", &null),
-        member(json, "affected_row_count", &null),
-        member(json, "last_insert_rowid", &null),
-    )
 }
 
 fn col_members(alloc: Global, col: &Col) -> Result<Json, NoMemory>

@@ -2,6 +2,7 @@
 use Rattle.std.proofs.Common.{◌≡◌, ℕ, ◌<◌, ◌≤◌, inl, inr, Bool, true, false, List, [], ◌∷◌, ◌++◌, arith, refl, sym, ◌∙◌, subst}
 use Rattle.std.specs.Prelude.{Result, Ok, Err, IfOk, IfErr, nat_lt, if◌then◌else◌, Vec}
 use Rattle.std.specs.declared.alloc.Global.{Global}
+use Rattle.serde_json.specs.Data.{Data}
 use Rattle.std.proofs.lemmas.Bool.Decides.{nat_tests}
 use Rattle.hrana_value.specs.declared.failures.Decline.{Decline}
 use Rattle.hrana_value.specs.declared.failures.ReadFail.{ReadFail}
@@ -148,3 +149,7 @@ Reads-both-failed {m = m} {n = n} {after = after} {s = s} {t = t} {a = a} {b = b
 pub Reads-joined : {A B : Type 0} {m : A → Type 0} {n : B → Type 0} {s t : Decline → Type 0} {a : Result A ReadFail} {b : Result B ReadFail} {r : Result (A × B) ReadFail} → r ≡ both_of a b → Reads m s a → Reads n t b
     → Reads (λ pair. m pair.0 × n pair.1) (EitherStands s t) r
 Reads-joined {m = m} {n = n} {s = s} {t = t} {a = a} {b = b} made p q = subst (Reads (λ pair. m pair.0 × n pair.1) (EitherStands s t)) (sym made) (Reads-both m n s t a b p q)
+
+-- a part was read, and it is that of the message
+pub Reads-at : {A : Type 0} (tree : A → Data → Type 0) (stands : Data → Decline → Type 0) {part d : Data} {answer : Result A ReadFail} → part ≡ d → Reads (λ m. tree m part) (stands part) answer → Reads (λ m. tree m d) (stands d) answer
+Reads-at tree stands {answer = answer} is reads = subst (λ t. Reads (λ m. tree m t) (stands t) answer) is reads

@@ -18,6 +18,16 @@ pub fn member<'a>(json: &'a Json, name: &str, missing: &'a Json) -> &'a Json
     }
 }
 
+/// Reads the named members of an object, each by the reader of its kind:
+/// `members!(json; message = "message": text_of_json(alloc), code = "code": optional_text_of_json(alloc))` makes two
+/// variables with the two readings. A member that is missing is read as null.
+#[macro_export]
+macro_rules! members {
+    ($json:ident; $($member:ident = $name:literal: $kind:ident($($given:expr),*)),+) => {
+        $(let $member = $kind($($given,)* $crate::member($json, $name, &Json::Null));)+
+    };
+}
+
 /// The text of a member, where it is a string.
 pub fn text_member<'a>(json: &'a Json, name: &str) -> Option<&'a str>
     ensures { option_map (λ s. s.now) result ≡ text_at name.now (view json.now) }

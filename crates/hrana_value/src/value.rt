@@ -57,11 +57,14 @@ impl Values {
         Values { items }
     }
 
-    /// Adds a value at the end. A refused value is dropped.
+    /// Adds a value at the end. A refused value is dropped. Most rows have one value, so the first takes room for one.
     pub fn push(&mut self, value: Value) -> Result<(), NoMemory>
         ensures ok { OnOk result (self.new ≡ self.old ++ value ∷ []) }
         ensures err { OnErr result (self.new ≡ self.old) }
     {
+        if self.items.is_empty() && self.items.reserve_exact(1).is_err() {
+            return Err(NoMemory);
+        }
         match self.items.push(value) {
             Ok(()) => Ok(()),
             Err(_) => Err(NoMemory),
