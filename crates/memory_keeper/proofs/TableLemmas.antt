@@ -4,8 +4,8 @@ use Rattle.std.specs.List.{range_with_len, zip}
 use Rattle.std.proofs.lemmas.List.{take_more, take_all, drop_more, get_or_default}
 use Rattle.std.proofs.lemmas.Slice.Zip.{get_or-zip, length-zip}
 use Rattle.std.proofs.lemmas.Bool.{eq-eqb}
-use Rattle.hrana_stmt.specs.declared.codes.Code.{Code}
-use Rattle.hrana_stmt.specs.declared.codes.Code.TheVariants.{NoColumn}
+use Rattle.memory_keeper.specs.declared.fail.Refusal.{Refusal}
+use Rattle.memory_keeper.specs.declared.fail.Refusal.TheVariants.{NoColumn}
 use Rattle.hrana_value.specs.declared.value.Value.{Value}
 use Rattle.keeper_dialect.specs.declared.query.Expr.{Expr}
 use Rattle.memory_keeper.specs.declared.fail.Fail.{Fail}
@@ -46,9 +46,9 @@ tuples_added-append : (table : Table) (xs ys : List (List Equation)) → tuples_
 tuples_added-append table [] ys = refl
 tuples_added-append table (x ∷ xs) ys =
     elim (tuple_added table x) as (λ r. and_then r (λ next. tuples_added next (xs ++ ys)) ≡ and_then (and_then r (λ next. tuples_added next xs)) (λ next. tuples_added next ys))
-    [ Ok next ↦ tuples_added-append next xs ys | Err code ↦ refl ]
+    [ Ok next ↦ tuples_added-append next xs ys | Err refusal ↦ refl ]
 
-one_added : (table : Table) (x : List Equation) (ys : List (List Equation)) (r : Result Table Code) → tuple_added table x ≡ r → tuples_added table (x ∷ ys) ≡ and_then r (λ next. tuples_added next ys)
+one_added : (table : Table) (x : List Equation) (ys : List (List Equation)) (r : Result Table Refusal) → tuple_added table x ≡ r → tuples_added table (x ∷ ys) ≡ and_then r (λ next. tuples_added next ys)
 one_added table x ys r p = ap (λ r. and_then r (λ next. tuples_added next ys)) p
 
 pub tuples_added_more : (table : Table) (xs : List (List Equation)) (i : ℕ) (x : List Equation) (made next : Table) → tuples_added table (take i xs) ≡ Ok made → i < length xs → x ≡ get_or xs i x → tuple_added made x ≡ Ok next → tuples_added table (take (i + 1) xs) ≡ Ok next
@@ -56,12 +56,12 @@ tuples_added_more table xs i x made next done h is p =
     let whole : take (i + 1) xs ≡ take i xs ++ x ∷ [] = take_more xs i x h ∙ ap (λ z. take i xs ++ z ∷ []) (sym is) in
     ap (tuples_added table) whole ∙ tuples_added-append table (take i xs) (x ∷ []) ∙ ap (λ r. and_then r (λ next. tuples_added next (x ∷ []))) done ∙ one_added made x [] (Ok next) p
 
-tuples_added_refused : (table : Table) (xs : List (List Equation)) (i : ℕ) (x : List Equation) (made : Table) (code : Code) → tuples_added table (take i xs) ≡ Ok made → i < length xs → x ≡ get_or xs i x → tuple_added made x ≡ Err code → tuples_added table xs ≡ Err code
-tuples_added_refused table xs i x made code done h is p =
+tuples_added_refused : (table : Table) (xs : List (List Equation)) (i : ℕ) (x : List Equation) (made : Table) (refusal : Refusal) → tuples_added table (take i xs) ≡ Ok made → i < length xs → x ≡ get_or xs i x → tuple_added made x ≡ Err refusal → tuples_added table xs ≡ Err refusal
+tuples_added_refused table xs i x made refusal done h is p =
     let rest = drop (i + 1) xs in
     let whole : xs ≡ take i xs ++ x ∷ rest = sym (Rattle.std.proofs.Common.take-append-drop i xs) ∙ ap (λ r. take i xs ++ r) (drop_more xs i x h ∙ ap (λ z. z ∷ rest) (sym is)) in
-    ap (tuples_added table) whole ∙ tuples_added-append table (take i xs) (x ∷ rest) ∙ ap (λ r. and_then r (λ next. tuples_added next (x ∷ rest))) done ∙ one_added made x rest (Err code) p
+    ap (tuples_added table) whole ∙ tuples_added-append table (take i xs) (x ∷ rest) ∙ ap (λ r. and_then r (λ next. tuples_added next (x ∷ rest))) done ∙ one_added made x rest (Err refusal) p
 
 pub refuses_tuples : (table : Table) (xs : List (List Equation)) (i : ℕ) (x : List Equation) (made : Table) (fail : Fail) → tuples_added table (take i xs) ≡ Ok made → i < length xs → x ≡ get_or xs i x → Refuses (tuple_added made x) fail → Refuses (tuples_added table xs) fail
-refuses_tuples table xs i x made (Refused code) done h is p = tuples_added_refused table xs i x made code done h is p
+refuses_tuples table xs i x made (Refused refusal) done h is p = tuples_added_refused table xs i x made refusal done h is p
 refuses_tuples table xs i x made NoMemory done h is p = tt

@@ -4,8 +4,8 @@ use Rattle.std.specs.Ordering.{int_eq}
 use Rattle.std.specs.Cmp.Lexicographic.{pointwise}
 use Rattle.hrana_value.specs.declared.value.Value.{Value}
 use Rattle.hrana_value.specs.declared.value.Value.TheVariants.{Null, Integer, Text, Blob}
-use Rattle.hrana_stmt.specs.declared.codes.Code.{Code}
-use Rattle.hrana_stmt.specs.declared.codes.Code.TheVariants.{BadType, Overflow}
+use Rattle.memory_keeper.specs.declared.fail.Refusal.{Refusal}
+use Rattle.memory_keeper.specs.declared.fail.Refusal.TheVariants.{BadType, Overflow}
 
 -- a value that may be missing
 abbrev pub value_or_null : Option Value → Value
@@ -30,11 +30,11 @@ is_equal (Blob a) (Blob b) = pointwise nat_eq a b
 is_equal left right = false
 
 -- the number, where it is an i64
-abbrev pub within_i64 : ℤ → Result Value Code
+abbrev pub within_i64 : ℤ → Result Value Refusal
 within_i64 number = if int_le (neg_ℤ (pos (2 ^ 63))) number && int_lt number (pos (2 ^ 63)) then Ok (Integer number) else Err Overflow
 
 -- The sum or the difference: null where a side is null, else of two integers.
-abbrev pub sum_of : Bool → Value → Value → Result Value Code
+abbrev pub sum_of : Bool → Value → Value → Result Value Refusal
 sum_of minus Null right = Ok Null
 sum_of minus left Null = Ok Null
 sum_of minus (Integer m) (Integer n) = within_i64 (if minus then m -ℤ n else m +ℤ n)

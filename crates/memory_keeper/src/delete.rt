@@ -1,5 +1,6 @@
 // `DELETE`.
-ghost use Rattle.std.specs.Prelude.{◌≡◌};
+ghost use Rattle.std.specs.Prelude.{◌≡◌, IfOk};
+ghost use Rattle.engine_core.specs.Results.{IsSmall};
 ghost use Rattle.memory_keeper.specs.Each.{Changes};
 ghost use Rattle.memory_keeper.specs.Tables.{delete};
 
@@ -19,7 +20,8 @@ pub fn delete(
     wanted: &Option<ColExpr>,
     bound: &[Value],
 ) -> Result<StmtResult, Fail>
-    ensures { Changes (delete table.old wanted.now bound.now) table.old result table.new }
+    ensures changes { Changes (delete table.old wanted.now bound.now) table.old result table.new }
+    ensures small { IfOk result IsSmall }
 {
     let condition = condition_of(alloc, table.columns.as_slice(), bound, wanted)?;
     let count = chosen_count(&condition, table.rows.as_slice())?;

@@ -5,9 +5,8 @@ ghost use Rattle.memory_keeper.specs.Each.{Gives, map_ok};
 ghost use Rattle.memory_keeper.specs.Values.{value_at, value_or_null, sum_of, is_equal};
 ghost use Rattle.memory_keeper.specs.Formulas.{operand_value, sums, formula_value, is_met};
 
-use crate::fail::Fail;
+use crate::fail::{Fail, Refusal};
 use crate::values::{copy_or_null, is_equal, sum_of};
-use hrana_stmt::Code;
 use hrana_value::{NoMemory, Value};
 use std::alloc::Global;
 use std::marker::Model;
@@ -201,7 +200,7 @@ pub fn are_equal(left: Option<&Value>, right: Option<&Value>) -> bool
     }
 }
 
-fn add(row: &[Value], sum: Option<&Value>, addend: &Addend) -> Result<Value, Code>
+fn add(row: &[Value], sum: Option<&Value>, addend: &Addend) -> Result<Value, Refusal>
     ensures { result ≡ sum_of addend.now.minus (value_or_null (option_copied sum.entry)) (operand_value row.now addend.now.operand) }
 {
     match (sum, operand_value(row, &addend.operand)) {
@@ -216,7 +215,7 @@ pub fn sum_on_row(
     first: &Operand,
     second: &Addend,
     rest: &[Addend],
-) -> Result<Value, Code>
+) -> Result<Value, Refusal>
     ensures { result ≡ sums row.now (operand_value row.now first.now) (second.now ∷ rest.now) }
 {
     let mut sum = add(row, operand_value(row, first), second)?;
@@ -236,7 +235,7 @@ pub fn formula_value(alloc: Global, row: &[Value], formula: &Formula) -> Result<
     }
 }
 
-fn equals_sum(left: Option<&Value>, sum: Result<Value, Code>) -> Result<bool, Code>
+fn equals_sum(left: Option<&Value>, sum: Result<Value, Refusal>) -> Result<bool, Refusal>
     ensures { result ≡ map_ok (is_equal (value_or_null (option_copied left.entry))) sum }
 {
     let sum = sum?;
@@ -244,7 +243,7 @@ fn equals_sum(left: Option<&Value>, sum: Result<Value, Code>) -> Result<bool, Co
 }
 
 /// Whether the column equals the expression on the row.
-pub fn is_met(row: &[Value], equation: &Equation) -> Result<bool, Code>
+pub fn is_met(row: &[Value], equation: &Equation) -> Result<bool, Refusal>
     ensures { result ≡ is_met row.now equation.now }
 {
     let left = value_at(row, equation.place);

@@ -1,17 +1,18 @@
 // `INSERT`: all new rows are made before the first is put in.
 ghost use Rattle.std.specs.Prelude.{◌≡◌, ◌≤◌, Some, pos, ◌+◌, ◌-◌, ◌<◌, ◌^◌, ◌++◌, ◌∷◌, [], Ok, length, replicate, IfOk, IfErr, OnOk, OnErr};
 ghost use Rattle.hrana_value.specs.declared.value.Value.TheVariants as sql_value;
+ghost use Rattle.engine_core.specs.Results.{IsSmall};
 ghost use Rattle.memory_keeper.specs.Each.{Gives, Refuses, Changes, each};
 ghost use Rattle.std.specs.List.{range_with_len};
 ghost use Rattle.memory_keeper.specs.Formulas.{place_of, known};
 ghost use Rattle.memory_keeper.specs.Tables.{places_of, tuple_equation, tuple_of, with_rows, tuple_added, tuples_added, last_rowid, insert};
 
-use crate::fail::Fail;
+use crate::fail::{Fail, Refusal};
 use crate::formulas::{Equation, Equations};
 use crate::resolve::{formula_of, place_of};
 use crate::rows::{assigned, breaks_key, done};
 use crate::tables::{Row, Table};
-use hrana_stmt::{Code, StmtResult};
+use hrana_stmt::StmtResult;
 use hrana_value::{NoMemory, Txt, Value};
 use keeper_dialect::{Expr, Exprs, NameList};
 use std::alloc::Global;
@@ -73,7 +74,7 @@ fn tuple_of(
     ensures { Gives (tuple_of bound.now places.now exprs.now) result }
 {
     if places.len() != exprs.len() {
-        return Err(Fail::Refused(Code::NoColumn));
+        return Err(Fail::Refused(Refusal::NoColumn));
     }
     let mut equations = Equations::new(alloc);
     for (index, expr) in exprs.iter().enumerate() {
@@ -118,11 +119,11 @@ fn new_row(alloc: Global, table: &Table, fresh: &[Row], tuple: &[Equation]) -> R
     let row = nulls(alloc, table.columns.as_slice().len())?;
     let values = assigned(alloc, &[], row, tuple)?;
     if breaks_key(table.key, table.rows.as_slice(), fresh, values.as_slice()) {
-        return Err(Fail::Refused(Code::Constraint));
+        return Err(Fail::Refused(Refusal::Constraint));
     }
     let rowid = table.next_rowid.saturating_add(fresh.len() as u64);
     if rowid > MAX_ROWID {
-        return Err(Fail::Refused(Code::Overflow));
+        return Err(Fail::Refused(Refusal::Overflow));
     }
     Ok(Row { rowid, values })
 }
@@ -173,7 +174,8 @@ pub fn insert(
     tuples: &[Exprs],
     bound: &[Value],
 ) -> Result<StmtResult, Fail>
-    ensures { Changes (insert table.old names.now tuples.now bound.now) table.old result table.new }
+    ensures changes { Changes (insert table.old names.now tuples.now bound.now) table.old result table.new }
+    ensures small { IfOk result IsSmall }
 {
     let places = places_of(alloc, table.columns.as_slice(), names)?;
     let resolved = tuples_of(alloc, bound, places.as_slice(), tuples)?;

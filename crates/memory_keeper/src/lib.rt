@@ -3,9 +3,11 @@
 
 mod create;
 mod delete;
+mod execute;
 mod fail;
 mod formulas;
 mod insert;
+mod keeper;
 mod queries;
 mod resolve;
 mod rows;
@@ -16,6 +18,7 @@ mod tests;
 mod update;
 mod values;
 
-pub use fail::Fail;
+pub use fail::Refusal;
 pub use formulas::{Addend, Addends, Equation, Equations, Formula, Formulas, Operand, Picture};
+pub use keeper::MemoryKeeper;
 pub use tables::{Database, Row, Table, TableRows};

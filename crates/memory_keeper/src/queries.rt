@@ -1,19 +1,20 @@
 // Queries on the tables of a database.
 ghost use Rattle.std.specs.Prelude.{◌≡◌, ◌<◌, ◌∷◌, ◌++◌, [], Some, Ok, Err, IfOk, IfErr, length, slice_get};
+ghost use Rattle.engine_core.specs.Results.{IsSmall};
 ghost use Rattle.memory_keeper.specs.Each.{Gives, Refuses, Changes};
 ghost use Rattle.memory_keeper.specs.Tables.{insert, update, delete};
 ghost use Rattle.memory_keeper.specs.Exec.{no_columns, table_place, table_of, on_table, created, selected_from, run_query};
 
 use crate::create::new_table;
 use crate::delete::delete;
-use crate::fail::Fail;
+use crate::fail::{Fail, Refusal};
 use crate::insert::insert;
 use crate::resolve::is_same_name;
 use crate::rows::done;
 use crate::select::select;
 use crate::tables::{Row, Table};
 use crate::update::update;
-use hrana_stmt::{Code, StmtResult};
+use hrana_stmt::StmtResult;
 use hrana_value::{Txt, Value, Values};
 use keeper_dialect::{ColDef, ColExpr, ColExprs, NameList, Query, Shown, Tuples};
 use std::alloc::Global;
@@ -27,14 +28,14 @@ fn place_of_table(tables: &[Table], name: &str) -> Option<usize>
 }
 
 /// The place of the table of a name.
-fn table_of(tables: &[Table], name: &str) -> Result<usize, Code>
+fn table_of(tables: &[Table], name: &str) -> Result<usize, Refusal>
     ensures ok { IfOk result (λ place. (table : Table) → slice_get tables.now place ≡ Some table → table_of tables.now name.now ≡ Ok (place, table)) }
     ensures within { IfOk result (λ place. place < length tables.now) }
     ensures err { IfErr result (λ code. table_of tables.now name.now ≡ Err code) }
 {
     match place_of_table(tables, name) {
         Some(place) => Ok(place),
-        None => Err(Code::NoTable),
+        None => Err(Refusal::NoTable),
     }
 }
 
@@ -44,10 +45,11 @@ fn create(
     name: &Txt,
     cols: &[ColDef],
 ) -> Result<StmtResult, Fail>
-    ensures { Changes (created tables.old.items (table_place tables.old.items name.now) name.now cols.now) tables.old.items result tables.new.items }
+    ensures changes { Changes (created tables.old.items (table_place tables.old.items name.now) name.now cols.now) tables.old.items result tables.new.items }
+    ensures small { IfOk result IsSmall }
 {
     if place_of_table(tables.as_slice(), name.as_str()).is_some() {
-        return Err(Fail::Refused(Code::TableExists));
+        return Err(Fail::Refused(Refusal::TableExists));
     }
     let table = new_table(alloc, name, cols)?;
     tables.push(table)?;
@@ -72,7 +74,8 @@ fn selected_from(
     wanted: &Option<ColExpr>,
     bound: &[Value],
 ) -> Result<StmtResult, Fail>
-    ensures { Gives (selected_from tables.now name.now shown.now wanted.now bound.now) result }
+    ensures gives { Gives (selected_from tables.now name.now shown.now wanted.now bound.now) result }
+    ensures small { IfOk result IsSmall }
 {
     match name {
         None => {
@@ -102,7 +105,8 @@ fn insert_into(
     tuples: &Tuples,
     bound: &[Value],
 ) -> Result<StmtResult, Fail>
-    ensures { Changes (on_table tables.old.items name.now (λ t. insert t names.now tuples.now bound.now)) tables.old.items result tables.new.items }
+    ensures changes { Changes (on_table tables.old.items name.now (λ t. insert t names.now tuples.now bound.now)) tables.old.items result tables.new.items }
+    ensures small { IfOk result IsSmall }
 {
     let place = table_of(tables.as_slice(), name.as_str())?;
     insert(alloc, &mut tables[place], names, tuples.as_slice(), bound)
@@ -116,7 +120,8 @@ fn update_in(
     wanted: &Option<ColExpr>,
     bound: &[Value],
 ) -> Result<StmtResult, Fail>
-    ensures { Changes (on_table tables.old.items name.now (λ t. update t sets.now wanted.now bound.now)) tables.old.items result tables.new.items }
+    ensures changes { Changes (on_table tables.old.items name.now (λ t. update t sets.now wanted.now bound.now)) tables.old.items result tables.new.items }
+    ensures small { IfOk result IsSmall }
 {
     let place = table_of(tables.as_slice(), name.as_str())?;
     update(alloc, &mut tables[place], sets.as_slice(), wanted, bound)
@@ -129,7 +134,8 @@ fn delete_from(
     wanted: &Option<ColExpr>,
     bound: &[Value],
 ) -> Result<StmtResult, Fail>
-    ensures { Changes (on_table tables.old.items name.now (λ t. delete t wanted.now bound.now)) tables.old.items result tables.new.items }
+    ensures changes { Changes (on_table tables.old.items name.now (λ t. delete t wanted.now bound.now)) tables.old.items result tables.new.items }
+    ensures small { IfOk result IsSmall }
 {
     let place = table_of(tables.as_slice(), name.as_str())?;
     delete(alloc, &mut tables[place], wanted, bound)
@@ -142,7 +148,8 @@ pub fn run_query(
     bound: &[Value],
     query: &Query,
 ) -> Result<StmtResult, Fail>
-    ensures { Changes (run_query tables.old.items bound.now query.now) tables.old.items result tables.new.items }
+    ensures changes { Changes (run_query tables.old.items bound.now query.now) tables.old.items result tables.new.items }
+    ensures small { IfOk result IsSmall }
 {
     match query {
         Query::Create { table, cols } => create(alloc, tables, table, cols.as_slice()),

@@ -6,10 +6,9 @@ ghost use Rattle.memory_keeper.specs.Values.{value_at};
 ghost use Rattle.memory_keeper.specs.Formulas.{place_of, known, operand_of, addend_of, formula_of, equation_of};
 ghost use Rattle.memory_keeper.specs.Tables.{condition_of};
 
-use crate::fail::Fail;
+use crate::fail::{Fail, Refusal};
 use crate::formulas::{Addend, Addends, Equation, Equations, Formula, Operand};
 use crate::values::copy_or_null;
-use hrana_stmt::Code;
 use hrana_value::{NoMemory, Txt, Value};
 use keeper_dialect::{Add, ColExpr, Expr, Term};
 use std::alloc::Global;
@@ -30,12 +29,12 @@ fn place_among(columns: &[Txt], name: &str) -> Option<usize>
 }
 
 /// The place of a column of this name.
-pub fn place_of(columns: &[Txt], name: &str) -> Result<usize, Code>
+pub fn place_of(columns: &[Txt], name: &str) -> Result<usize, Refusal>
     ensures { result ≡ known (place_of columns.now name.now) }
 {
     match place_among(columns, name) {
         Some(place) => Ok(place),
-        None => Err(Code::NoColumn),
+        None => Err(Refusal::NoColumn),
     }
 }
 

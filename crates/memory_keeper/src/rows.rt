@@ -1,21 +1,22 @@
 // Which rows a condition chooses, and what is made of them.
 ghost use Rattle.std.specs.Prelude.{◌≡◌, ◌≤◌, [], ◌++◌, length, IfOk};
 ghost use Rattle.std.specs.Option.{option_copied};
+ghost use Rattle.engine_core.specs.Results.{IsSmall};
 ghost use Rattle.memory_keeper.specs.Each.{Gives};
 ghost use Rattle.memory_keeper.specs.Formulas.{assigned};
 ghost use Rattle.memory_keeper.specs.Values.{value_at, value_or_null, is_equal};
 ghost use Rattle.memory_keeper.specs.Tables.{is_chosen, stays, chosen_count, has_key, is_taken, breaks_key, keeps_key, done};
 
-use crate::fail::Fail;
+use crate::fail::{Fail, Refusal};
 use crate::formulas::{Equation, formula_value, is_met};
 use crate::tables::Row;
 use crate::values::{is_equal, is_null};
-use hrana_stmt::{Code, Cols, Rows, StmtResult};
+use hrana_stmt::{Cols, Rows, StmtResult};
 use hrana_value::{Value, Values};
 use std::alloc::Global;
 
 /// Whether a row is chosen.
-pub fn is_chosen(condition: &Option<Equation>, row: &Row) -> Result<bool, Code>
+pub fn is_chosen(condition: &Option<Equation>, row: &Row) -> Result<bool, Refusal>
     ensures { result ≡ is_chosen condition.now row.now }
 {
     match condition {
@@ -35,7 +36,7 @@ pub fn stays(condition: &Option<Equation>, row: &Row) -> bool
 }
 
 /// How many rows are chosen.
-pub fn chosen_count(condition: &Option<Equation>, rows: &[Row]) -> Result<usize, Code>
+pub fn chosen_count(condition: &Option<Equation>, rows: &[Row]) -> Result<usize, Refusal>
     ensures count { result ≡ chosen_count condition.now rows.now }
     ensures within { IfOk result (λ count. count ≤ length rows.now) }
 {
@@ -122,7 +123,8 @@ pub fn keeps_key(key: Option<usize>, rows: &[Row]) -> bool
 
 /// What a statement without rows is answered.
 pub fn done(alloc: Global, count: usize, last_rowid: Option<i64>) -> StmtResult
-    ensures { result ≡ done count last_rowid }
+    ensures given { result ≡ done count last_rowid }
+    ensures small { IsSmall result }
 {
     StmtResult {
         cols: Cols::new(alloc),

@@ -1,17 +1,18 @@
 // `SELECT`.
 ghost use Rattle.std.specs.Prelude.{◌≡◌, ◌≤◌, ◌<◌, ◌+◌, ◌^◌, ◌∷◌, [], Ok, pos, map, IfOk, MatchOption};
-ghost use Rattle.engine_core.specs.Plain.{value_size, values_size};
+ghost use Rattle.engine_core.specs.Results.{value_size, values_size};
 ghost use Rattle.hrana_value.specs.declared.value.Value.TheVariants.{Integer};
+ghost use Rattle.engine_core.specs.Results.{IsSmall};
 ghost use Rattle.memory_keeper.specs.Each.{Gives, each};
 ghost use Rattle.memory_keeper.specs.Formulas.{formula_of, formula_value};
 ghost use Rattle.memory_keeper.specs.Tables.{picture_of, names_of, shown_values, row_shown, shown_rows, chosen_rows, fits, select, named};
 
-use crate::fail::Fail;
+use crate::fail::{Fail, Refusal};
 use crate::formulas::{Equation, Formula, Formulas, Picture, formula_value};
 use crate::resolve::{condition_of, formula_of};
 use crate::rows::{chosen_count, is_chosen};
 use crate::tables::Row;
-use hrana_stmt::{Code, Col, Cols, Rows, StmtResult};
+use hrana_stmt::{Col, Cols, Rows, StmtResult};
 use hrana_value::{NoMemory, Txt, Value, Values};
 use keeper_dialect::{ColExpr, Item, Shown};
 use std::alloc::Global;
@@ -228,13 +229,14 @@ pub fn select(
     wanted: &Option<ColExpr>,
     bound: &[Value],
 ) -> Result<StmtResult, Fail>
-    ensures { Gives (select columns.now rows.now shown.now wanted.now bound.now) result }
+    ensures gives { Gives (select columns.now rows.now shown.now wanted.now bound.now) result }
+    ensures small { IfOk result IsSmall }
 {
     let picture = picture_of(alloc, columns, bound, shown)?;
     let condition = condition_of(alloc, columns, bound, wanted)?;
     let given = shown_rows(alloc, &picture, &condition, rows)?;
     if !fits(given.as_slice()) {
-        return Err(Fail::Refused(Code::ResultTooLarge));
+        return Err(Fail::Refused(Refusal::ResultTooLarge));
     }
     let cols = cols_of(alloc, columns, shown)?;
     Ok(StmtResult {

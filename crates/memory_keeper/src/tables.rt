@@ -1,9 +1,14 @@
 // Tables and their rows.
 ghost use Rattle.std.specs.Prelude.{◌≡◌, [], ◌++◌, OnOk, OnErr, IfOk, filter};
-ghost use Rattle.memory_keeper.specs.Tables.{stays, new_table};
+ghost use Rattle.engine_core.specs.Results.{IsSmall};
+ghost use Rattle.memory_keeper.specs.Tables.{stays};
+ghost use Rattle.memory_keeper.specs.Exec.{exec, RunsAs};
 
+use crate::execute::execute;
 use crate::formulas::Equation;
 use crate::rows::stays;
+use engine_core::{BoundStmt, EngineFail};
+use hrana_stmt::StmtResult;
 use hrana_value::{NoMemory, Txt, Values};
 use keeper_dialect::NameList;
 use std::alloc::Global;
@@ -139,7 +144,7 @@ impl Table {
 /// The tables of a database, in the order of their creation.
 #[derive(Debug, Drop)]
 pub struct Database {
-    pub(crate) tables: Vec<Table>,
+    tables: Vec<Table>,
 }
 
 impl Model for Database {
@@ -159,6 +164,14 @@ impl Database {
         Database {
             tables: Vec::new(alloc),
         }
+    }
+
+    /// Runs a statement. A refusal and want of memory leave the tables as they were.
+    pub fn execute(&mut self, alloc: Global, stmt: &BoundStmt) -> Result<StmtResult, EngineFail>
+        ensures runs { RunsAs (exec self.old stmt.now) self.old result self.new }
+        ensures small { IfOk result IsSmall }
+    {
+        execute(alloc, &mut self.tables, stmt)
     }
 
     pub fn copy(&self, alloc: Global) -> Result<Database, NoMemory>

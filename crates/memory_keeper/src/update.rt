@@ -1,14 +1,15 @@
 // `UPDATE`: all new rows are made from the old ones before the first is put in.
 ghost use Rattle.std.specs.Prelude.{◌≡◌, ◌≤◌, ◌∷◌, [], length, Ok, IfOk, IfErr};
+ghost use Rattle.engine_core.specs.Results.{IsSmall};
 ghost use Rattle.memory_keeper.specs.Each.{somes, Gives, Refuses, Changes};
 ghost use Rattle.memory_keeper.specs.Tables.{renewal, renewed_row, all_renewed, update};
 
-use crate::fail::Fail;
+use crate::fail::{Fail, Refusal};
 use crate::formulas::Equation;
 use crate::resolve::{condition_of, equations_of};
 use crate::rows::{assigned, done, is_chosen, keeps_key};
 use crate::tables::{Row, Table, TableRows};
-use hrana_stmt::{Code, StmtResult};
+use hrana_stmt::StmtResult;
 use hrana_value::{NoMemory, Value, Values};
 use keeper_dialect::ColExpr;
 use std::alloc::Global;
@@ -99,7 +100,8 @@ pub fn update(
     wanted: &Option<ColExpr>,
     bound: &[Value],
 ) -> Result<StmtResult, Fail>
-    ensures { Changes (update table.old sets.now wanted.now bound.now) table.old result table.new }
+    ensures changes { Changes (update table.old sets.now wanted.now bound.now) table.old result table.new }
+    ensures small { IfOk result IsSmall }
 {
     let equations = equations_of(alloc, table.columns.as_slice(), bound, sets)?;
     let condition = condition_of(alloc, table.columns.as_slice(), bound, wanted)?;
@@ -110,7 +112,7 @@ pub fn update(
         table.rows.as_slice(),
     )?;
     if !keeps_key(table.key, rows.as_slice()) {
-        return Err(Fail::Refused(Code::Constraint));
+        return Err(Fail::Refused(Refusal::Constraint));
     }
     table.rows = TableRows::from_vec(rows);
     Ok(done(alloc, count, None))

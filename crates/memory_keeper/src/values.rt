@@ -5,7 +5,7 @@ ghost use Rattle.std.specs.Int.{w64};
 ghost use Rattle.memory_keeper.specs.Values.{value_at, value_or_null, sum_of, within_i64, is_equal, is_null};
 ghost use Rattle.hrana_value.specs.declared.value.Value.TheVariants.{Integer};
 
-use hrana_stmt::Code;
+use crate::fail::Refusal;
 use hrana_value::{NoMemory, Value};
 use std::alloc::Global;
 
@@ -40,7 +40,7 @@ pub fn is_equal(left: &Value, right: &Value) -> bool
     }
 }
 
-pub fn sum_of_integers(minus: bool, left: i64, right: i64) -> Result<Value, Code>
+pub fn sum_of_integers(minus: bool, left: i64, right: i64) -> Result<Value, Refusal>
     ensures { result ≡ sum_of minus (Integer left) (Integer right) }
 {
     let sum = if minus {
@@ -50,18 +50,18 @@ pub fn sum_of_integers(minus: bool, left: i64, right: i64) -> Result<Value, Code
     };
     match sum {
         Some(sum) => Ok(Value::Integer(sum)),
-        None => Err(Code::Overflow),
+        None => Err(Refusal::Overflow),
     }
 }
 
 /// `left + right`, or `left - right`.
-pub fn sum_of(minus: bool, left: &Value, right: &Value) -> Result<Value, Code>
+pub fn sum_of(minus: bool, left: &Value, right: &Value) -> Result<Value, Refusal>
     ensures { result ≡ sum_of minus left.now right.now }
 {
     match (left, right) {
         (Value::Null, _) => Ok(Value::Null),
         (_, Value::Null) => Ok(Value::Null),
         (Value::Integer(left), Value::Integer(right)) => sum_of_integers(minus, *left, *right),
-        _ => Err(Code::BadType),
+        _ => Err(Refusal::BadType),
     }
 }

@@ -1,5 +1,5 @@
 use Rattle.std.proofs.Common.{◌≡◌, ◌+◌, take}
-use Rattle.engine_core.specs.Plain.{values_size}
+use Rattle.engine_core.specs.Results.{values_size}
 use Rattle.memory_keeper.proofs.select.size_left.Given as goal
 
 abbrev pub invariant-loop-value : goal.invariant-loop-value
