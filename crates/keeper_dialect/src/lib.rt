@@ -19,6 +19,7 @@
 
 mod parser;
 mod query;
+mod reader;
 mod tokens;
 
 pub use parser::parse;
