@@ -11,7 +11,7 @@ use Rattle.keeper_dialect.specs.Tokens.{Token, tokens_from, tokens_of, token_of,
 use Rattle.keeper_dialect.specs.declared.tokens.Token.{Token as HeldToken}
 
 -- two slices that meet
-slices_meet : {A : Type 0} (xs : List A) (a b c : ℕ) → a ≤ b → b ≤ c → slice_range xs a b ++ slice_range xs b c ≡ slice_range xs a c
+pub slices_meet : {A : Type 0} (xs : List A) (a b c : ℕ) → a ≤ b → b ≤ c → slice_range xs a b ++ slice_range xs b c ≡ slice_range xs a c
 slices_meet xs a b c low high =
     append_cancel_right _ _ (drop c xs) (append_assoc (slice_range xs a b) (slice_range xs b c) (drop c xs) ∙ ap (λ ys. slice_range xs a b ++ ys) (sym (drop_split xs b c high)) ∙ sym (drop_split xs a b low) ∙ drop_split xs a c (omega arith))
 
@@ -34,7 +34,7 @@ tokens_from-passed seen sql from at end k ps rest is passed low high within =
     let e : at + length (slice_range sql at end) ≡ end = omega arith in
     ap (tokens_from seen (slice_range sql from at) at) is ∙ passed_by (is_passed k) _ _ passed ∙ (λ i. tokens_from seen (slices_meet sql from at end low (omega arith) i) (e i) rest)
 
-slice_none : {A : Type 0} (xs : List A) (a : ℕ) → slice_range xs a a ≡ []
+pub slice_none : {A : Type 0} (xs : List A) (a : ℕ) → slice_range xs a a ≡ []
 slice_none xs a = grind arith
 
 pub tokens_from-taken : (seen : List Numbered) (sql : List ℕ) (from at end : ℕ) (k : Kind) (ps rest : List Piece) → ps ≡ piece k (slice_range sql at end) ∷ rest → is_passed k ≡ false → at < end → end ≤ length sql → tokens_from seen (slice_range sql from at) at ps ≡ token_of seen (slice_range sql from at) at k (slice_range sql at end) ∷ tokens_from (seen_after seen k (slice_range sql at end)) (slice_range sql end end) end rest

@@ -110,19 +110,35 @@ unfoldable pub word_term_at : List Token → Reading Term
 word_term_at ts =
     blob_or_name (text_at ts) (if is_word (text_at ts) (codes "X") then digits_behind (drop 1 ts) else None) (drop 1 ts)
 
-abbrev pub term_by : Symbol → List Token → Reading Term
-term_by (symbol.Keyword k) ts = if is_keyword keyword.Null (symbol.Keyword k) then Ok (term.Null, drop 1 ts) else Err (place_at ts)
-term_by symbol.Word ts = word_term_at ts
-term_by symbol.QuotedName ts = Ok (term.Name (unquoted 34 (text_at ts)), drop 1 ts)
-term_by symbol.Text ts = Ok (term.Text (unquoted 39 (text_at ts)), drop 1 ts)
-term_by symbol.Number ts = number_at false ts
-term_by (symbol.Parameter n) ts = Ok (term.Param n, drop 1 ts)
-term_by (symbol.Sign b) ts = if b == 45 then number_at true (drop 1 ts) else Err (place_at ts)
-term_by symbol.Stray ts = Err (place_at ts)
-term_by symbol.End ts = Err (place_at ts)
+-- the term of one token that is neither a word nor a number
+abbrev pub other_term_of : Symbol → List ℕ → Option Term
+other_term_of (symbol.Keyword k) text = if is_keyword keyword.Null (symbol.Keyword k) then Some term.Null else None
+other_term_of symbol.Word text = None
+other_term_of symbol.QuotedName text = Some (term.Name (unquoted 34 text))
+other_term_of symbol.Text text = Some (term.Text (unquoted 39 text))
+other_term_of symbol.Number text = None
+other_term_of (symbol.Parameter n) text = Some (term.Param n)
+other_term_of (symbol.Sign b) text = None
+other_term_of symbol.Stray text = None
+other_term_of symbol.End text = None
+
+unfoldable pub other_term_at : List Token → Reading Term
+other_term_at ts = one_at (other_term_of (symbol_at ts) (text_at ts)) ts
+
+-- a term with no minus
+abbrev pub unsigned_term_by : Symbol → List Token → Reading Term
+unsigned_term_by (symbol.Keyword k) ts = other_term_at ts
+unsigned_term_by symbol.Word ts = word_term_at ts
+unsigned_term_by symbol.QuotedName ts = other_term_at ts
+unsigned_term_by symbol.Text ts = other_term_at ts
+unsigned_term_by symbol.Number ts = number_at false ts
+unsigned_term_by (symbol.Parameter n) ts = other_term_at ts
+unsigned_term_by (symbol.Sign b) ts = other_term_at ts
+unsigned_term_by symbol.Stray ts = other_term_at ts
+unsigned_term_by symbol.End ts = other_term_at ts
 
 unfoldable pub term_at : List Token → Reading Term
-term_at ts = term_by (symbol_at ts) ts
+term_at ts = if is_sign 45 (symbol_at ts) then number_at true (drop 1 ts) else unsigned_term_by (symbol_at ts) ts
 
 abbrev pub add_of : Bool → Term → List Token → Reading Add
 add_of minus t rest = Ok (record { minus = minus; term = t }, rest)

@@ -19,7 +19,9 @@
 
 mod parser;
 mod query;
+mod names;
 mod reader;
+mod terms;
 mod tokens;
 
 pub use parser::parse;

@@ -1,5 +1,5 @@
 // The tokens that are left, and what stands at their front.
-ghost use Rattle.std.specs.Prelude.{◌≡◌, drop, IfOk, IfErr};
+ghost use Rattle.std.specs.Prelude.{◌≡◌, drop, IfOk, IfErr, if◌then◌else◌};
 ghost use Rattle.keeper_dialect.specs.Tokens.{view, views};
 ghost use Rattle.keeper_dialect.specs.Reading.{symbol_at, text_at, before_at, place_at, rank_of, is_keyword, is_sign, keyword_at, sign_at, StopsAs};
 
@@ -118,5 +118,29 @@ impl<'a> Reader<'a> {
         }
         self.step();
         Ok(())
+    }
+
+    /// Passes a sign, if it stands.
+    pub(crate) fn takes(&mut self, sign: u8) -> bool
+        ensures found { result ≡ is_sign sign (symbol_at self.old) }
+        ensures left { self.new ≡ (if result then drop 1 self.old else self.old) }
+    {
+        if !self.is_sign(sign) {
+            return false;
+        }
+        self.step();
+        true
+    }
+
+    /// Passes a reserved word, if it stands.
+    pub(crate) fn takes_keyword(&mut self, keyword: Keyword) -> bool
+        ensures found { result ≡ is_keyword keyword (symbol_at self.old) }
+        ensures left { self.new ≡ (if result then drop 1 self.old else self.old) }
+    {
+        if !self.is_keyword(keyword) {
+            return false;
+        }
+        self.step();
+        true
     }
 }

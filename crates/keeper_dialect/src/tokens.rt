@@ -84,7 +84,7 @@ pub(crate) struct Token<'a> {
     pub(crate) start: usize,
 }
 
-fn is_word(word: &[u8], name: &str) -> bool
+pub(crate) fn is_word(word: &[u8], name: &str) -> bool
     ensures { result ≡ is_word word.now name.now }
 {
     word.eq_ignore_ascii_case(name.as_bytes())
