@@ -1,2 +1,4 @@
 pub mod TokenLemmas
 pub mod NameLemmas
+pub mod ReadingLemmas
+pub mod Shorter

@@ -140,18 +140,20 @@ unsigned_term_by symbol.End ts = other_term_at ts
 unfoldable pub term_at : List Token → Reading Term
 term_at ts = if is_sign 45 (symbol_at ts) then number_at true (drop 1 ts) else unsigned_term_by (symbol_at ts) ts
 
-abbrev pub add_of : Bool → Term → List Token → Reading Add
-add_of minus t rest = Ok (record { minus = minus; term = t }, rest)
+-- `+` or `-`, and whether it is `-`
+abbrev pub operator_of : Symbol → Option Bool
+operator_of s = if is_sign 43 s then Some false else (if is_sign 45 s then Some true else None)
 
--- a term behind `+` or `-`
-unfoldable pub add_at : List Token → Option (Reading Add)
-add_at ts =
-    if is_sign 43 (symbol_at ts) then Some (and_then (term_at (drop 1 ts)) (add_of false))
-    else (if is_sign 45 (symbol_at ts) then Some (and_then (term_at (drop 1 ts)) (add_of true))
-    else None)
+-- the term behind an operator
+abbrev pub operand_at : Option Bool → List Token → Option (Reading Add)
+operand_at None ts = None
+operand_at (Some minus) ts = Some (and_then (term_at ts) (λ t rest. Ok (record { minus = minus; term = t }, rest)))
+
+abbrev pub add_at : List Add → List Token → Option (Reading Add)
+add_at done ts = operand_at (operator_of (symbol_at ts)) (drop 1 ts)
 
 unfoldable pub adds_at : List Token → Reading (List Add)
-adds_at ts = repeated (λ done rest. add_at rest) (length ts) [] ts
+adds_at ts = repeated add_at (length ts) [] ts
 
 unfoldable pub expr_at : List Token → Reading Expr
 expr_at ts = and_then (term_at ts) (λ t after. and_then (adds_at after) (λ adds rest. Ok (record { first = t; rest = adds }, rest)))

@@ -19,6 +19,7 @@
 
 mod parser;
 mod query;
+mod exprs;
 mod names;
 mod reader;
 mod terms;
