@@ -2,3 +2,4 @@ pub mod TokenLemmas
 pub mod NameLemmas
 pub mod ReadingLemmas
 pub mod Shorter
+pub mod CommaLemmas

@@ -108,9 +108,9 @@ unfolding separated
 separated_within read within ts n few =
     within_then n (read [] ts) _ (record { few = λ x rest is. let less = (within [] ts).few x rest is in omega arith }) (λ x rest short. repeated_within (behind_comma read) (commas_go_on read within) (length rest) n (x ∷ []) rest short)
 
-pub new_name_within : (names : List (List ℕ)) (ts : List Token) (n : ℕ) → length ts ≤ n → Within n (new_name_at names ts)
+pub new_name_within : (is_taken : List ℕ → Bool) (ts : List Token) (n : ℕ) → length ts ≤ n → Within n (new_name_at is_taken ts)
 unfolding new_name_at
-new_name_within names ts n few = within_then n (name_at ts) _ (name_within ts n few) (λ name rest short. within_if n _ _ _ (within_err n _) (within_ok n name rest short))
+new_name_within is_taken ts n few = within_then n (name_at ts) _ (name_within ts n few) (λ name rest short. within_if n _ _ _ (within_err n _) (within_ok n name rest short))
 
 pub tuple_within : (ts : List Token) (n : ℕ) → length ts ≤ n → Within n (tuple_at ts)
 unfolding tuple_at exprs_at

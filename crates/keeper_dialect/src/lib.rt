@@ -20,6 +20,7 @@
 mod parser;
 mod query;
 mod exprs;
+mod lists;
 mod names;
 mod reader;
 mod terms;

@@ -1,6 +1,7 @@
 // The tokens that are left, and what stands at their front.
 ghost use Rattle.std.specs.Prelude.{◌≡◌, drop, IfOk, IfErr, if◌then◌else◌};
 ghost use Rattle.keeper_dialect.specs.Tokens.{view, views};
+ghost use Rattle.keeper_dialect.specs.Lists.{front};
 ghost use Rattle.keeper_dialect.specs.Reading.{symbol_at, text_at, before_at, place_at, rank_of, is_keyword, is_sign, keyword_at, sign_at, StopsAs};
 
 use crate::query::DialectFail;
@@ -142,5 +143,19 @@ impl<'a> Reader<'a> {
         }
         self.step();
         true
+    }
+
+    /// The tokens that are left.
+    pub(crate) fn rest(&self) -> &'a [Token<'a>]
+        ensures { views result.now ≡ self.now }
+    {
+        self.rest
+    }
+
+    /// The tokens before those that are left, of tokens that these are the last of.
+    pub(crate) fn behind(&self, tokens: &'a [Token<'a>]) -> &'a [Token<'a>]
+        ensures { views result.now ≡ front (views tokens.now) self.now }
+    {
+        &tokens[..tokens.len().saturating_sub(self.rest.len())]
     }
 }
