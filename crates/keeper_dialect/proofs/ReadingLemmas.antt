@@ -87,8 +87,8 @@ module _ {A : Type 0} (next : List A → List Token → Option (Reading A)) wher
   enough_by goes (suc n) zero done (t ∷ ts) few less (Some r) is = absurd (omega arith)
   enough_by goes (suc n) (suc m) done (t ∷ ts) few less (Some (Err at)) is = repeated-fail n done (t ∷ ts) at is ∙ sym (repeated-fail m done (t ∷ ts) at is)
   enough_by goes (suc n) (suc m) done (t ∷ ts) few less (Some (Ok read)) is =
-    let shorter : length read.1 < length (t ∷ ts) = goes.shortens done (t ∷ ts) read.0 read.1 is in
-    repeated-one n done (t ∷ ts) read.0 read.1 is ∙ enough_by goes n m (done ++ read.0 ∷ []) read.1 (omega arith) (omega arith) (next (done ++ read.0 ∷ []) read.1) refl ∙ sym (repeated-one m done (t ∷ ts) read.0 read.1 is)
+      let shorter : length read.1 < length (t ∷ ts) = goes.shortens done (t ∷ ts) read.0 read.1 is in
+      repeated-one n done (t ∷ ts) read.0 read.1 is ∙ enough_by goes n m (done ++ read.0 ∷ []) read.1 (omega arith) (omega arith) (next (done ++ read.0 ∷ []) read.1) refl ∙ sym (repeated-one m done (t ∷ ts) read.0 read.1 is)
 
   pub enough : GoesOn next → (n m : ℕ) (done : List A) (ts : List Token) → length ts ≤ n → length ts ≤ m → repeated next n done ts ≡ repeated next m done ts
   enough goes n m done ts few less = enough_by goes n m done ts few less (next done ts) refl
@@ -97,15 +97,15 @@ module _ {A : Type 0} (next : List A → List Token → Option (Reading A)) wher
   pub repeated-goes : GoesOn next → (done : List A) (ts : List Token) (x : A) (rest : List Token) → next done ts ≡ Some (Ok (x, rest)) → repeated next (length ts) done ts ≡ repeated next (length rest) (done ++ x ∷ []) rest
   repeated-goes goes done [] x rest is = let no : Some (Ok (x, rest)) ≡ None = sym is ∙ goes.ends done in cc no
   repeated-goes goes done (t ∷ ts) x rest is =
-    let shorter : length rest < length (t ∷ ts) = goes.shortens done (t ∷ ts) x rest is in
-    let count : length (t ∷ ts) ≡ suc (length ts) = omega arith in
-    ap (λ n. repeated next n done (t ∷ ts)) count ∙ repeated-one (length ts) done (t ∷ ts) x rest is ∙ enough goes (length ts) (length rest) (done ++ x ∷ []) rest (omega arith) (omega arith)
+      let shorter : length rest < length (t ∷ ts) = goes.shortens done (t ∷ ts) x rest is in
+      let count : length (t ∷ ts) ≡ suc (length ts) = omega arith in
+      ap (λ n. repeated next n done (t ∷ ts)) count ∙ repeated-one (length ts) done (t ∷ ts) x rest is ∙ enough goes (length ts) (length rest) (done ++ x ∷ []) rest (omega arith) (omega arith)
 
   pub repeated-fails : GoesOn next → (done : List A) (ts : List Token) (at : ℕ) → next done ts ≡ Some (Err at) → repeated next (length ts) done ts ≡ Err at
   repeated-fails goes done [] at is = let no : Some (Err at) ≡ None = sym is ∙ goes.ends done in cc no
   repeated-fails goes done (t ∷ ts) at is =
-    let count : length (t ∷ ts) ≡ suc (length ts) = omega arith in
-    ap (λ n. repeated next n done (t ∷ ts)) count ∙ repeated-fail (length ts) done (t ∷ ts) at is
+      let count : length (t ∷ ts) ≡ suc (length ts) = omega arith in
+      ap (λ n. repeated next n done (t ∷ ts)) count ∙ repeated-fail (length ts) done (t ∷ ts) at is
 
   none_within : (m : ℕ) (done : List A) (ts : List Token) → length ts ≤ m → Within m (repeated next zero done ts)
   unfolding repeated
@@ -117,8 +117,8 @@ module _ {A : Type 0} (next : List A → List Token → Option (Reading A)) wher
   repeated_within_by goes zero m done ts few (Some r) is = none_within m done ts few
   repeated_within_by goes (suc n) m done ts few (Some (Err at)) is = subst (Within m) (sym (repeated-fail n done ts at is)) (within_err m at)
   repeated_within_by goes (suc n) m done ts few (Some (Ok read)) is =
-    let shorter : length read.1 < length ts = goes.shortens done ts read.0 read.1 is in
-    subst (Within m) (sym (repeated-one n done ts read.0 read.1 is)) (repeated_within_by goes n m (done ++ read.0 ∷ []) read.1 (omega arith) (next (done ++ read.0 ∷ []) read.1) refl)
+      let shorter : length read.1 < length ts = goes.shortens done ts read.0 read.1 is in
+      subst (Within m) (sym (repeated-one n done ts read.0 read.1 is)) (repeated_within_by goes n m (done ++ read.0 ∷ []) read.1 (omega arith) (next (done ++ read.0 ∷ []) read.1) refl)
 
   pub repeated_within : GoesOn next → (n m : ℕ) (done : List A) (ts : List Token) → length ts ≤ m → Within m (repeated next n done ts)
   repeated_within goes n m done ts few = repeated_within_by goes n m done ts few (next done ts) refl

@@ -76,11 +76,11 @@ operand_shortens (Some minus) ts n x rest few is =
 pub adds_go_on : GoesOn add_at
 adds_go_on = record { ends = λ done. refl; shortens = shorter }
   where
-  shorter : (done : List Add) (ts : List Token) (x : Add) (rest : List Token) → add_at done ts ≡ Some (Ok (x, rest)) → length rest < length ts
-  shorter done [] x rest is = cc is
-  shorter done (t ∷ ts) x rest is =
-      let less = operand_shortens (operator_of t.symbol) (drop 1 (t ∷ ts)) (length ts) x rest (omega (arith, drop_one_less t ts)) is in
-      omega arith
+    shorter : (done : List Add) (ts : List Token) (x : Add) (rest : List Token) → add_at done ts ≡ Some (Ok (x, rest)) → length rest < length ts
+    shorter done [] x rest is = cc is
+    shorter done (t ∷ ts) x rest is =
+        let less = operand_shortens (operator_of t.symbol) (drop 1 (t ∷ ts)) (length ts) x rest (omega (arith, drop_one_less t ts)) is in
+        omega arith
 
 pub adds_within : (ts : List Token) (n : ℕ) → length ts ≤ n → Within n (adds_at ts)
 unfolding adds_at
@@ -94,14 +94,15 @@ expr_within ts n few = within_then n (term_at ts) _ (term_within ts n few) (λ t
 pub commas_go_on : {A : Type 0} (read : List A → List Token → Reading A) → ((done : List A) (ts : List Token) → Within (length ts) (read done ts)) → GoesOn (behind_comma read)
 commas_go_on {A} read within = record { ends = λ done. refl; shortens = shorter }
   where
-  by_test : (test : Bool) (r : Reading A) (x : A) (rest : List Token) (n : ℕ) → Within n r → cond test (Some r) None ≡ Some (Ok (x, rest)) → length rest ≤ n
-  by_test true r x rest n few is = let same : r ≡ Ok (x, rest) = cc is in few.few x rest same
-  by_test false r x rest n few is = cc is
-  shorter : (done : List A) (ts : List Token) (x : A) (rest : List Token) → behind_comma read done ts ≡ Some (Ok (x, rest)) → length rest < length ts
-  shorter done [] x rest is = cc is
-  shorter done (t ∷ ts) x rest is =
-      let less = by_test (is_sign 44 t.symbol) (read done (drop 1 (t ∷ ts))) x rest (length (drop 1 (t ∷ ts))) (within done (drop 1 (t ∷ ts))) is in
-      omega (arith, drop_one_less t ts)
+    by_test : (test : Bool) (r : Reading A) (x : A) (rest : List Token) (n : ℕ) → Within n r → cond test (Some r) None ≡ Some (Ok (x, rest)) → length rest ≤ n
+    by_test true r x rest n few is = let same : r ≡ Ok (x, rest) = cc is in few.few x rest same
+    by_test false r x rest n few is = cc is
+
+    shorter : (done : List A) (ts : List Token) (x : A) (rest : List Token) → behind_comma read done ts ≡ Some (Ok (x, rest)) → length rest < length ts
+    shorter done [] x rest is = cc is
+    shorter done (t ∷ ts) x rest is =
+        let less = by_test (is_sign 44 t.symbol) (read done (drop 1 (t ∷ ts))) x rest (length (drop 1 (t ∷ ts))) (within done (drop 1 (t ∷ ts))) is in
+        omega (arith, drop_one_less t ts)
 
 pub separated_within : {A : Type 0} (read : List A → List Token → Reading A) → ((done : List A) (ts : List Token) → Within (length ts) (read done ts)) → (ts : List Token) (n : ℕ) → length ts ≤ n → Within n (separated read ts)
 unfolding separated

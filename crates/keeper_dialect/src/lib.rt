@@ -17,12 +17,13 @@
 //! ```
 #![tactic(auto)]
 
-mod parser;
-mod query;
 mod exprs;
 mod lists;
 mod names;
+mod parser;
+mod query;
 mod reader;
+mod statements;
 mod terms;
 mod tokens;
 

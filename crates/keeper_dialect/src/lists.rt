@@ -1,8 +1,8 @@
 // The lists of the dialect: columns, names, tuples, settings and what is shown.
-ghost use Rattle.std.specs.Prelude.{◌≡◌, drop, length, IfOk, IfErr};
+ghost use Rattle.std.specs.Prelude.{◌≡◌, ◌++◌, string_bytes, drop, length, OnOk, IfOk, IfErr};
 ghost use Rattle.keeper_dialect.specs.Reading.{symbol_at, StopsAs};
-ghost use Rattle.keeper_dialect.specs.Tokens.{views};
-ghost use Rattle.keeper_dialect.specs.Lists.{is_same_name, is_among, is_set, is_col, has_key, new_name_at, name_list_at, names_at, exprs_at, tuple_at, tuples_at, set_at, sets_at, source_text, item_at, items_at, after_type, key_at, col_name_at, col_def_at, cols_at, col_defs_at};
+ghost use Rattle.keeper_dialect.specs.Tokens.{view, views};
+ghost use Rattle.keeper_dialect.specs.Lists.{is_same_name, is_among, is_set, is_col, has_key, new_name_at, name_list_at, names_at, exprs_at, tuple_at, tuples_at, set_at, sets_at, source_of_token, source_text, item_at, items_at, after_type, key_at, col_name_at, col_def_at, cols_at, col_defs_at};
 
 use crate::query::{
     ColDef, ColDefs, ColExpr, ColExprs, DialectFail, Exprs, Item, Items, NameList, Tuples,
@@ -25,9 +25,7 @@ fn is_same_name(name: &str, other: &str) -> bool
 fn is_among(names: &[Txt], name: &str) -> bool
     ensures { result ≡ is_among names.now name.now }
 {
-    names
-        .iter()
-        .any(|other| is_same_name(other.as_str(), name))
+    names.iter().any(|other| is_same_name(other.as_str(), name))
 }
 
 fn is_set(sets: &[ColExpr], name: &str) -> bool
@@ -49,17 +47,25 @@ fn has_key(cols: &[ColDef]) -> bool
     cols.iter().any(|col| col.key)
 }
 
+/// Adds a token to a source text, with the blanks and comments before it.
+fn push_source(source: &mut String, token: &Token) -> Result<(), NoMemory>
+    ensures { OnOk result (string_bytes source.new ≡ string_bytes source.old ++ source_of_token (view token.now)) }
+{
+    source.push_str(token.before)?;
+    source.push_str(token.text)?;
+    Ok(())
+}
+
 /// The source text from the first token to the last.
-fn source_text(alloc: Global, tokens: &[Token]) -> Result<Txt, NoMemory>
+pub(crate) fn source_text(alloc: Global, tokens: &[Token]) -> Result<Txt, NoMemory>
     ensures { IfOk result (λ text. text ≡ source_text (views tokens.now)) }
 {
-    let mut source = String::new(alloc);
-    if let [first, rest @ ..] = tokens {
-        source.push_str(first.text)?;
-        for token in rest {
-            source.push_str(token.before)?;
-            source.push_str(token.text)?;
-        }
+    if tokens.is_empty() {
+        return Txt::new(alloc, "");
+    }
+    let mut source = String::from_str(alloc, tokens[0].text)?;
+    for token in &tokens[1..] {
+        push_source(&mut source, token)?;
     }
     Ok(Txt::from_string(source))
 }
