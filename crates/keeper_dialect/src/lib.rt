@@ -25,6 +25,8 @@ mod query;
 mod reader;
 mod statements;
 mod terms;
+#[cfg(test)]
+mod tests;
 mod tokens;
 
 pub use parser::parse;
