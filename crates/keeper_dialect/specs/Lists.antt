@@ -20,15 +20,19 @@ is_same_name a b = str_eq_ignore_ascii_case a b
 abbrev pub is_among : List (List ℕ) → List ℕ → Bool
 is_among names name = list_any (λ other. is_same_name other name) names
 
--- a name that isn't among others
-unfoldable pub new_name_at : List (List ℕ) → List Token → Reading (List ℕ)
-new_name_at names ts = and_then (name_at ts) (λ name rest. if is_among names name then Err (place_at ts) else Ok (name, rest))
+-- a name that isn't taken
+unfoldable pub new_name_at : (List ℕ → Bool) → List Token → Reading (List ℕ)
+new_name_at is_taken ts = and_then (name_at ts) (λ name rest. if is_taken name then Err (place_at ts) else Ok (name, rest))
+
+-- names, no two the same
+unfoldable pub name_list_at : List Token → Reading (List (List ℕ))
+name_list_at ts = separated (λ done. new_name_at (is_among done)) ts
 
 -- names in brackets, no two the same
 unfoldable pub names_at : List Token → Reading (List (List ℕ))
 names_at ts =
     and_then (sign_at 40 ts) (λ _ inner.
-    and_then (separated new_name_at inner) (λ names after.
+    and_then (name_list_at inner) (λ names after.
     and_then (sign_at 41 after) (λ _ rest. Ok (names, rest))))
 
 unfoldable pub exprs_at : List Token → Reading (List Expr)
@@ -44,13 +48,13 @@ tuple_at ts =
 unfoldable pub tuples_at : List Token → Reading (List (List Expr))
 tuples_at ts = separated (λ done. tuple_at) ts
 
-abbrev pub set_columns : List ColExpr → List (List ℕ)
-set_columns sets = map (λ s. s.column) sets
+abbrev pub is_set : List ColExpr → List ℕ → Bool
+is_set sets name = list_any (λ s. is_same_name s.column name) sets
 
 -- a setting of a column that none before it sets
 unfoldable pub set_at : List ColExpr → List Token → Reading ColExpr
 set_at done ts =
-    and_then (new_name_at (set_columns done) ts) (λ name after.
+    and_then (new_name_at (is_set done) ts) (λ name after.
     and_then (sign_at 61 after) (λ _ right.
     and_then (expr_at right) (λ e rest. Ok (record { column = name; expr = e }, rest))))
 
@@ -87,8 +91,8 @@ after_type (symbol.Sign b) ts = ts
 after_type symbol.Stray ts = ts
 after_type symbol.End ts = ts
 
-abbrev pub col_names : List ColDef → List (List ℕ)
-col_names cols = map (λ col. col.name) cols
+abbrev pub is_col : List ColDef → List ℕ → Bool
+is_col cols name = list_any (λ col. is_same_name col.name name) cols
 
 abbrev pub has_key : List ColDef → Bool
 has_key cols = list_any (λ col. col.key) cols
@@ -106,16 +110,19 @@ key_at had ts =
 
 -- the name of a column, of which there are at most 64, no two the same
 unfoldable pub col_name_at : List ColDef → List Token → Reading (List ℕ)
-col_name_at done ts = if nat_lt (length done) most_cols then new_name_at (col_names done) ts else Err (place_at ts)
+col_name_at done ts = if nat_lt (length done) most_cols then new_name_at (is_col done) ts else Err (place_at ts)
 
 unfoldable pub col_def_at : List ColDef → List Token → Reading ColDef
 col_def_at done ts =
     and_then (col_name_at done ts) (λ name after.
     and_then (key_at (has_key done) (after_type (symbol_at after) after)) (λ key rest. Ok (record { name = name; key = key }, rest)))
 
+unfoldable pub cols_at : List Token → Reading (List ColDef)
+cols_at ts = separated col_def_at ts
+
 -- columns in brackets
 unfoldable pub col_defs_at : List Token → Reading (List ColDef)
 col_defs_at ts =
     and_then (sign_at 40 ts) (λ _ inner.
-    and_then (separated col_def_at inner) (λ cols after.
+    and_then (cols_at inner) (λ cols after.
     and_then (sign_at 41 after) (λ _ rest. Ok (cols, rest))))

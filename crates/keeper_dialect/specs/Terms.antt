@@ -110,32 +110,50 @@ unfoldable pub word_term_at : List Token → Reading Term
 word_term_at ts =
     blob_or_name (text_at ts) (if is_word (text_at ts) (codes "X") then digits_behind (drop 1 ts) else None) (drop 1 ts)
 
-abbrev pub term_by : Symbol → List Token → Reading Term
-term_by (symbol.Keyword k) ts = if is_keyword keyword.Null (symbol.Keyword k) then Ok (term.Null, drop 1 ts) else Err (place_at ts)
-term_by symbol.Word ts = word_term_at ts
-term_by symbol.QuotedName ts = Ok (term.Name (unquoted 34 (text_at ts)), drop 1 ts)
-term_by symbol.Text ts = Ok (term.Text (unquoted 39 (text_at ts)), drop 1 ts)
-term_by symbol.Number ts = number_at false ts
-term_by (symbol.Parameter n) ts = Ok (term.Param n, drop 1 ts)
-term_by (symbol.Sign b) ts = if b == 45 then number_at true (drop 1 ts) else Err (place_at ts)
-term_by symbol.Stray ts = Err (place_at ts)
-term_by symbol.End ts = Err (place_at ts)
+-- the term of one token that is neither a word nor a number
+abbrev pub other_term_of : Symbol → List ℕ → Option Term
+other_term_of (symbol.Keyword k) text = if is_keyword keyword.Null (symbol.Keyword k) then Some term.Null else None
+other_term_of symbol.Word text = None
+other_term_of symbol.QuotedName text = Some (term.Name (unquoted 34 text))
+other_term_of symbol.Text text = Some (term.Text (unquoted 39 text))
+other_term_of symbol.Number text = None
+other_term_of (symbol.Parameter n) text = Some (term.Param n)
+other_term_of (symbol.Sign b) text = None
+other_term_of symbol.Stray text = None
+other_term_of symbol.End text = None
+
+unfoldable pub other_term_at : List Token → Reading Term
+other_term_at ts = one_at (other_term_of (symbol_at ts) (text_at ts)) ts
+
+-- a term with no minus
+abbrev pub unsigned_term_by : Symbol → List Token → Reading Term
+unsigned_term_by (symbol.Keyword k) ts = other_term_at ts
+unsigned_term_by symbol.Word ts = word_term_at ts
+unsigned_term_by symbol.QuotedName ts = other_term_at ts
+unsigned_term_by symbol.Text ts = other_term_at ts
+unsigned_term_by symbol.Number ts = number_at false ts
+unsigned_term_by (symbol.Parameter n) ts = other_term_at ts
+unsigned_term_by (symbol.Sign b) ts = other_term_at ts
+unsigned_term_by symbol.Stray ts = other_term_at ts
+unsigned_term_by symbol.End ts = other_term_at ts
 
 unfoldable pub term_at : List Token → Reading Term
-term_at ts = term_by (symbol_at ts) ts
+term_at ts = if is_sign 45 (symbol_at ts) then number_at true (drop 1 ts) else unsigned_term_by (symbol_at ts) ts
 
-abbrev pub add_of : Bool → Term → List Token → Reading Add
-add_of minus t rest = Ok (record { minus = minus; term = t }, rest)
+-- `+` or `-`, and whether it is `-`
+abbrev pub operator_of : Symbol → Option Bool
+operator_of s = if is_sign 43 s then Some false else (if is_sign 45 s then Some true else None)
 
--- a term behind `+` or `-`
-unfoldable pub add_at : List Token → Option (Reading Add)
-add_at ts =
-    if is_sign 43 (symbol_at ts) then Some (and_then (term_at (drop 1 ts)) (add_of false))
-    else (if is_sign 45 (symbol_at ts) then Some (and_then (term_at (drop 1 ts)) (add_of true))
-    else None)
+-- the term behind an operator
+abbrev pub operand_at : Option Bool → List Token → Option (Reading Add)
+operand_at None ts = None
+operand_at (Some minus) ts = Some (and_then (term_at ts) (λ t rest. Ok (record { minus = minus; term = t }, rest)))
+
+abbrev pub add_at : List Add → List Token → Option (Reading Add)
+add_at done ts = operand_at (operator_of (symbol_at ts)) (drop 1 ts)
 
 unfoldable pub adds_at : List Token → Reading (List Add)
-adds_at ts = repeated (λ done rest. add_at rest) (length ts) [] ts
+adds_at ts = repeated add_at (length ts) [] ts
 
 unfoldable pub expr_at : List Token → Reading Expr
 expr_at ts = and_then (term_at ts) (λ t after. and_then (adds_at after) (λ adds rest. Ok (record { first = t; rest = adds }, rest)))

@@ -17,8 +17,16 @@
 //! ```
 #![tactic(auto)]
 
+mod exprs;
+mod lists;
+mod names;
 mod parser;
 mod query;
+mod reader;
+mod statements;
+mod terms;
+#[cfg(test)]
+mod tests;
 mod tokens;
 
 pub use parser::parse;
