@@ -17,7 +17,7 @@ use Rattle.sql_text.proofs.BoundaryLemmas.{Cuts, first_piece_cuts}
 use Rattle.sql_text.proofs.SpanLemmas.{spans_from, from_place, placed_piece, from_place-piece, from_place-end, end_of-placed_piece, spans-skipped, spans-cuts, spans-stands, spans-end, spans_of-start}
 
 -- a cut beside ASCII is one between characters
-cuts_boundary : (text : List ℕ) (at size : ℕ) → IsUtf8 text → 0 < size → at + size ≤ length text → Cuts (drop at text) size → IsCharBoundary text (at + size)
+pub cuts_boundary : (text : List ℕ) (at size : ℕ) → IsUtf8 text → 0 < size → at + size ≤ length text → Cuts (drop at text) size → IsCharBoundary text (at + size)
 cuts_boundary text at size utf8 positive within cuts =
     ⊎_elim
     (λ here. ⊎_elim (λ inside. IsCharBoundary-before_ascii text (at + size) inside (subst (λ b. b < 128) (get_or-drop at text size 0) here)) (λ past. let end : length text ≡ at + size = omega arith in subst (IsCharBoundary text) end (IsCharBoundary-end text)) (cases_lt (at + size) (length text)))

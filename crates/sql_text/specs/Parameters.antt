@@ -78,6 +78,14 @@ with_parameter seen text = with_number seen (number_taken seen text) text
 abbrev pub fits : ℕ → Bool
 fits n = nat_lt 0 n && nat_lt n 257
 
+-- a number, if it fits
+abbrev pub number_within : ℕ → Option ℕ
+number_within n = if fits n then Some n else None
+
+-- the parameters so far, and one more if its number fits
+abbrev pub with_fitting : List Numbered → List ℕ → List Numbered
+with_fitting seen text = if fits (number_taken seen text) then with_parameter seen text else seen
+
 -- whether the numbers of the parameters to come all fit
 abbrev pub all_fit : List Numbered → List (List ℕ) → Bool
 all_fit seen [] = true

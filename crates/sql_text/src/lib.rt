@@ -13,6 +13,7 @@ mod tests;
 
 pub use binding::{BindFail, are_bound, bind};
 pub use class::{Class, Mode, class_of};
+pub use parameters::{Parameter, Parameters, next_parameter};
 pub use pieces::{
     Kind, Piece, PlacedPiece, each_text_has_one_list_of_pieces, first_piece, piece_at,
 };

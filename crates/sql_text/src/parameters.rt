@@ -1,7 +1,7 @@
 // The parameters of a text, numbered in its order.
 ghost use Rattle.std.specs.Prelude.{◌≡◌, ◌+◌, ◌<◌, ◌≤◌, ◌++◌, ◌∷◌, [], ℕ, min, length, All, false};
 ghost use Rattle.std.specs.Bool.{OnTrue};
-ghost use Rattle.sql_text.specs.Parameters.{view, views, greatest, has_number, number_of_name, is_named, digits_value, number_behind, number_taken, with_parameter, numbered, fits, AreApart};
+ghost use Rattle.sql_text.specs.Parameters.{view, views, greatest, has_number, number_of_name, is_named, digits_value, number_behind, number_taken, with_parameter, numbered, fits, number_within, with_fitting, AreApart};
 
 use arrayvec::ArrayVec;
 
@@ -10,7 +10,7 @@ pub(crate) const MOST: usize = 257;
 
 /// A parameter that came first with its number.
 #[derive(Clone, Copy)]
-pub(crate) struct Parameter<'a> {
+pub struct Parameter<'a> {
     pub(crate) number: u16,
     pub(crate) prefix: u8,
     pub(crate) name: &'a [u8],
@@ -26,7 +26,8 @@ impl<'a> Default for Parameter<'a> {
     }
 }
 
-pub(crate) type Parameters<'a> = ArrayVec<Parameter<'a>, MOST>;
+/// The parameters of a text so far.
+pub type Parameters<'a> = ArrayVec<Parameter<'a>, MOST>;
 
 /// The greatest number, 0 where there is none.
 pub(crate) fn greatest(parameters: &[Parameter]) -> u16
@@ -128,6 +129,24 @@ fn add<'a>(parameters: &mut Parameters<'a>, number: u16, text: &'a [u8])
     });
 }
 
+/// The number of the next parameter. It is taken, unless its number isn't from 1 to 256.
+pub fn next_parameter<'a>(parameters: &mut Parameters<'a>, text: &'a [u8]) -> Option<u16>
+    requires apart { AreApart (views parameters.old.items) }
+    requires some { 0 < length text.now }
+    ensures apart { AreApart (views parameters.new.items) }
+    ensures number { result ≡ number_within (number_taken (views parameters.old.items) text.now) }
+    ensures taken { views parameters.new.items ≡ with_fitting (views parameters.old.items) text.now }
+{
+    let number = number_taken(parameters.as_slice(), text);
+    if number == 0 || number >= 257 {
+        return None;
+    }
+    if !has_number(parameters.as_slice(), number) {
+        add(parameters, number, text);
+    }
+    Some(number)
+}
+
 /// Takes the next parameter, unless its number doesn't fit.
 pub(crate) fn take_next<'a>(parameters: &mut Parameters<'a>, text: &'a [u8]) -> bool
     requires apart { AreApart (views parameters.old.items) }
@@ -136,12 +155,5 @@ pub(crate) fn take_next<'a>(parameters: &mut Parameters<'a>, text: &'a [u8]) -> 
     ensures fits { result ≡ fits (number_taken (views parameters.old.items) text.now) }
     ensures taken { OnTrue result (views parameters.new.items ≡ with_parameter (views parameters.old.items) text.now) }
 {
-    let number = number_taken(parameters.as_slice(), text);
-    if number == 0 || number >= 257 {
-        return false;
-    }
-    if !has_number(parameters.as_slice(), number) {
-        add(parameters, number, text);
-    }
-    true
+    next_parameter(parameters, text).is_some()
 }

@@ -1,6 +1,7 @@
 // The pieces of a text. A byte of 128 or more is part of a character past ASCII.
 ghost use Rattle.std.specs.Prelude.{◌≡◌, ◌≤◌, ◌<◌, length, drop, slice_index, slice_range, ◌∷◌};
 ghost use Rattle.sql_text.specs.Pieces.{passes, run_end, comment_end, quote_end, is_blank, is_letter, is_quote, is_prefix, first_piece, blank, line_comment, block_comment, quoted, bracketed, numbered_parameter, named_parameter, word, number, ended, first_of, enclosed_forms, named_forms, EachTextHasOneList, pieces, token};
+ghost use Rattle.std.specs.Str.{IsUtf8, IsCharBoundary};
 
 /// What a piece is. A sign carries its byte. An unclosed piece is a quote or a block comment with no end.
 #[derive(Clone, Copy, Debug, PartialEq, Eq)]
@@ -328,6 +329,7 @@ pub fn piece_at(text: &[u8], at: usize) -> PlacedPiece
     requires { at < length text.now }
     ensures later { at < result.end }
     ensures within { result.end ≤ length text.now }
+    ensures between { IsUtf8 text.now → IsCharBoundary text.now at → IsCharBoundary text.now result.end }
     ensures stands { pieces (drop at text.now) ≡ token result.kind (slice_range text.now at result.end) ∷ pieces (drop result.end text.now) }
 {
     let piece = first_piece(&text[at..]);

@@ -1,0 +1,5 @@
+pub mod TokenLemmas
+pub mod NameLemmas
+pub mod ReadingLemmas
+pub mod Shorter
+pub mod CommaLemmas

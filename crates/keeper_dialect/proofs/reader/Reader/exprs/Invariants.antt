@@ -1,0 +1,11 @@
+use Rattle.std.proofs.Common.{◌≡◌, length}
+use Rattle.keeper_dialect.specs.Reading.{repeated, behind_comma}
+use Rattle.keeper_dialect.specs.Terms.{expr_at}
+use Rattle.keeper_dialect.specs.Lists.{exprs_at}
+use Rattle.keeper_dialect.proofs.reader.Reader.exprs.Given as goal
+
+abbrev pub invariant-loop-alloc : goal.invariant-loop-alloc
+invariant-loop-alloc l = repeated (behind_comma (λ done. expr_at)) (length l.self) l.exprs l.self ≡ exprs_at l.fn.self
+
+abbrev pub decreases-loop-alloc : goal.decreases-loop-alloc
+decreases-loop-alloc l = length l.self

@@ -1,0 +1,5 @@
+pub mod Tokens
+pub mod Reading
+pub mod Terms
+pub mod Lists
+pub mod Query

@@ -1,0 +1,36 @@
+//! The dialect of SQL that the keeper in memory understands, and the parser of its queries.
+//!
+//! ```text
+//! query   = create | insert | select | update | delete
+//! create  = CREATE TABLE name ( coldef { , coldef } )
+//! coldef  = name [ word ] [ PRIMARY KEY ]
+//! insert  = INSERT INTO name [ ( name { , name } ) ] VALUES tuple { , tuple }
+//! tuple   = ( expr { , expr } )
+//! select  = SELECT expr { , expr } [ FROM name [ where ] ]
+//!         | SELECT * FROM name [ where ]
+//!         | SELECT COUNT ( * ) FROM name [ where ]
+//! update  = UPDATE name SET name = expr { , name = expr } [ where ]
+//! delete  = DELETE FROM name [ where ]
+//! where   = WHERE name = expr
+//! expr    = term { + term | - term }
+//! term    = [ - ] number | text | blob | NULL | parameter | name
+//! ```
+#![tactic(auto)]
+
+mod exprs;
+mod lists;
+mod names;
+mod parser;
+mod query;
+mod reader;
+mod statements;
+mod terms;
+#[cfg(test)]
+mod tests;
+mod tokens;
+
+pub use parser::parse;
+pub use query::{
+    Add, Adds, ColDef, ColDefs, ColExpr, ColExprs, DialectFail, Expr, Exprs, Item, Items, NameList,
+    Query, Shown, Term, Tuples,
+};

@@ -1,0 +1,246 @@
+// The tokens of a text: its pieces that are neither blank nor comment, and where the text ends.
+ghost use Rattle.std.specs.Prelude.{◌≡◌, ◌<◌, ◌≤◌, [], IfOk, length, slice_index, slice_range};
+ghost use Rattle.std.specs.Str.{IsCharBoundary};
+ghost use Rattle.sql_text.specs.Parameters.{views as parameter_views, AreApart};
+ghost use Rattle.sql_text.specs.Class.{is_word};
+ghost use Rattle.keeper_dialect.specs.Reading.{rank_of};
+ghost use Rattle.keeper_dialect.specs.Tokens.{early_keyword, late_keyword, or_keyword, keyword_or_word, symbol_of_word, symbol_of_run, symbol_of, seen_after, is_passed, token_of, tokens_of, end_token, view, views};
+
+use hrana_value::NoMemory;
+use sql_text::{Kind, Parameters, PlacedPiece, next_parameter, piece_at};
+use std::alloc::Global;
+
+/// The words that are reserved.
+#[derive(Clone, Copy, Debug, PartialEq, Eq)]
+pub(crate) enum Keyword {
+    Count,
+    Create,
+    Delete,
+    From,
+    Insert,
+    Into,
+    Key,
+    Null,
+    Primary,
+    Select,
+    Set,
+    Table,
+    Update,
+    Values,
+    Where,
+}
+
+impl Keyword {
+    pub(crate) fn rank(self) -> u8
+        ensures { result ≡ rank_of self }
+    {
+        match self {
+            Keyword::Count => 0,
+            Keyword::Create => 1,
+            Keyword::Delete => 2,
+            Keyword::From => 3,
+            Keyword::Insert => 4,
+            Keyword::Into => 5,
+            Keyword::Key => 6,
+            Keyword::Null => 7,
+            Keyword::Primary => 8,
+            Keyword::Select => 9,
+            Keyword::Set => 10,
+            Keyword::Table => 11,
+            Keyword::Update => 12,
+            Keyword::Values => 13,
+            Keyword::Where => 14,
+        }
+    }
+}
+
+/// What a token is.
+#[derive(Clone, Copy, Debug, PartialEq, Eq)]
+pub(crate) enum Symbol {
+    Keyword(Keyword),
+    /// A word that isn't reserved.
+    Word,
+    /// A run between `"`.
+    QuotedName,
+    /// A run between `'`.
+    Text,
+    Number,
+    /// A parameter whose number is from 1 to 256.
+    Parameter(u16),
+    Sign(u8),
+    /// A piece that no statement has: one that isn't closed, another quote, or a parameter whose number doesn't fit.
+    Stray,
+    /// The end of the text.
+    End,
+}
+
+/// A piece that is neither blank nor comment, with the blanks and comments before it.
+#[derive(Clone, Copy, Debug)]
+pub(crate) struct Token<'a> {
+    pub(crate) symbol: Symbol,
+    pub(crate) before: &'a str,
+    pub(crate) text: &'a str,
+    /// Where the piece starts in the text.
+    pub(crate) start: usize,
+}
+
+pub(crate) fn is_word(word: &[u8], name: &str) -> bool
+    ensures { result ≡ is_word word.now name.now }
+{
+    word.eq_ignore_ascii_case(name.as_bytes())
+}
+
+#[tactic(auto, unfolding(crate::specs::Tokens::early_keyword))]
+fn early_keyword(word: &[u8]) -> Option<Keyword>
+    ensures { result ≡ early_keyword word.now }
+{
+    if is_word(word, "COUNT") {
+        Some(Keyword::Count)
+    } else if is_word(word, "CREATE") {
+        Some(Keyword::Create)
+    } else if is_word(word, "DELETE") {
+        Some(Keyword::Delete)
+    } else if is_word(word, "FROM") {
+        Some(Keyword::From)
+    } else if is_word(word, "INSERT") {
+        Some(Keyword::Insert)
+    } else if is_word(word, "INTO") {
+        Some(Keyword::Into)
+    } else if is_word(word, "KEY") {
+        Some(Keyword::Key)
+    } else if is_word(word, "NULL") {
+        Some(Keyword::Null)
+    } else {
+        None
+    }
+}
+
+#[tactic(auto, unfolding(crate::specs::Tokens::late_keyword))]
+fn late_keyword(word: &[u8]) -> Option<Keyword>
+    ensures { result ≡ late_keyword word.now }
+{
+    if is_word(word, "PRIMARY") {
+        Some(Keyword::Primary)
+    } else if is_word(word, "SELECT") {
+        Some(Keyword::Select)
+    } else if is_word(word, "SET") {
+        Some(Keyword::Set)
+    } else if is_word(word, "TABLE") {
+        Some(Keyword::Table)
+    } else if is_word(word, "UPDATE") {
+        Some(Keyword::Update)
+    } else if is_word(word, "VALUES") {
+        Some(Keyword::Values)
+    } else if is_word(word, "WHERE") {
+        Some(Keyword::Where)
+    } else {
+        None
+    }
+}
+
+/// A reserved word, or another.
+fn symbol_of_word(word: &[u8]) -> Symbol
+    ensures { result ≡ symbol_of_word word.now }
+{
+    match early_keyword(word).or(late_keyword(word)) {
+        Some(keyword) => Symbol::Keyword(keyword),
+        None => Symbol::Word,
+    }
+}
+
+/// A run between quotes, by its first byte.
+fn symbol_of_run(quote: u8) -> Symbol
+    ensures { result ≡ symbol_of_run quote }
+{
+    if quote == b'"' {
+        Symbol::QuotedName
+    } else if quote == 39 {
+        Symbol::Text
+    } else {
+        Symbol::Stray
+    }
+}
+
+/// What a piece is. A parameter takes its number.
+fn symbol_of<'a>(seen: &mut Parameters<'a>, kind: Kind, bytes: &'a [u8]) -> Symbol
+    requires apart { AreApart (parameter_views seen.old.items) }
+    requires some { 0 < length bytes.now }
+    ensures apart { AreApart (parameter_views seen.new.items) }
+    ensures symbol { result ≡ symbol_of (parameter_views seen.old.items) kind bytes.now }
+    ensures seen { parameter_views seen.new.items ≡ seen_after (parameter_views seen.old.items) kind bytes.now }
+{
+    match kind {
+        Kind::Quoted => symbol_of_run(bytes[0]),
+        Kind::Parameter => match next_parameter(seen, bytes) {
+            Some(number) => Symbol::Parameter(number),
+            None => Symbol::Stray,
+        },
+        Kind::Word => symbol_of_word(bytes),
+        Kind::Number => Symbol::Number,
+        Kind::Sign(sign) => Symbol::Sign(sign),
+        Kind::Blank | Kind::Comment | Kind::Unclosed => Symbol::Stray,
+    }
+}
+
+fn is_passed(kind: Kind) -> bool
+    ensures { result ≡ is_passed kind }
+{
+    match kind {
+        Kind::Blank | Kind::Comment => true,
+        _ => false,
+    }
+}
+
+/// The token of a piece that stands from `at` to its end. The blanks and comments before it start at `from`.
+fn token_of<'a>(
+    sql: &'a str,
+    seen: &mut Parameters<'a>,
+    from: usize,
+    at: usize,
+    piece: PlacedPiece,
+) -> Token<'a>
+    requires apart { AreApart (parameter_views seen.old.items) }
+    requires before { from ≤ at }
+    requires some { at < piece.end }
+    requires within { piece.end ≤ length sql.now }
+    requires starts { IsCharBoundary sql.now from }
+    requires between { IsCharBoundary sql.now at }
+    requires ends { IsCharBoundary sql.now piece.end }
+    ensures apart { AreApart (parameter_views seen.new.items) }
+    ensures token { view result ≡ token_of (parameter_views seen.old.items) (slice_range sql.now from at) at piece.kind (slice_range sql.now at piece.end) }
+    ensures seen { parameter_views seen.new.items ≡ seen_after (parameter_views seen.old.items) piece.kind (slice_range sql.now at piece.end) }
+{
+    let text = &sql[at..piece.end];
+    Token {
+        symbol: symbol_of(seen, piece.kind, text.as_bytes()),
+        before: &sql[from..at],
+        text,
+        start: at,
+    }
+}
+
+/// The tokens of a text.
+pub(crate) fn tokens_of<'a>(alloc: Global, sql: &'a str) -> Result<Vec<Token<'a>>, NoMemory>
+    ensures { IfOk result (λ tokens. views tokens.items ≡ tokens_of sql.now) }
+{
+    let text = sql.as_bytes();
+    let mut tokens = Vec::new(alloc);
+    let mut seen = Parameters::new();
+    let mut from = 0;
+    let mut at = 0;
+    while at < text.len() {
+        let piece = piece_at(text, at);
+        if !is_passed(piece.kind) {
+            tokens.push(token_of(sql, &mut seen, from, at, piece))?;
+            from = piece.end;
+        }
+        at = piece.end;
+    }
+    tokens.push(Token {
+        symbol: Symbol::End,
+        before: &sql[from..at],
+        text: "",
+        start: at,
+    })?;
+    Ok(tokens)
+}

@@ -1,0 +1,5 @@
+pub mod EachLemmas
+pub mod FormulaLemmas
+pub mod RowLemmas
+pub mod TableLemmas
+pub mod ExecLemmas

@@ -1,0 +1,7 @@
+use Rattle.std.proofs.Common.{◌≡◌, Ok, take}
+use Rattle.memory_keeper.specs.Each.{each}
+use Rattle.memory_keeper.specs.Formulas.{formula_of}
+use Rattle.memory_keeper.proofs.select.formulas_of.Given as goal
+
+abbrev pub invariant-loop-item : goal.invariant-loop-item
+invariant-loop-item l = each (λ item. formula_of l.columns l.bound item.expr) (take l.item-index l.items) ≡ Ok l.formulas

@@ -1,0 +1,7 @@
+pub mod Refusals
+pub mod Values
+pub mod Each
+pub mod Formulas
+pub mod Tables
+pub mod Exec
+pub mod Meaning

@@ -1,0 +1,255 @@
+// Expressions whose names and parameters are resolved, and their values on a row.
+ghost use Rattle.std.specs.Prelude.{◌≡◌, [], ◌∷◌, ◌++◌, OnOk, OnErr, IfOk};
+ghost use Rattle.std.specs.Option.{option_copied};
+ghost use Rattle.memory_keeper.specs.Each.{Gives, map_ok};
+ghost use Rattle.memory_keeper.specs.Values.{value_at, value_or_null, sum_of, is_equal};
+ghost use Rattle.memory_keeper.specs.Formulas.{operand_value, sums, formula_value, is_met};
+
+use crate::fail::{Fail, Refusal};
+use crate::values::{copy_or_null, is_equal, sum_of};
+use hrana_value::{NoMemory, Value};
+use std::alloc::Global;
+use std::marker::Model;
+
+/// What a term stands for: one value on all rows, or the value of the column at a place.
+#[derive(Debug, Drop)]
+pub enum Operand {
+    Constant(Value),
+    Column(usize),
+}
+
+/// An operand that is added, or with `minus` taken away.
+#[derive(Debug, Drop)]
+pub struct Addend {
+    pub minus: bool,
+    pub operand: Operand,
+}
+
+/// An expression: an operand, and what is added to it from the left.
+#[derive(Debug, Drop)]
+pub struct Formula {
+    pub first: Operand,
+    pub rest: Addends,
+}
+
+/// A column's place with an expression: what a `WHERE` compares, what a `SET` sets, or where a tuple's value goes.
+#[derive(Debug, Drop)]
+pub struct Equation {
+    pub place: usize,
+    pub formula: Formula,
+}
+
+/// What a `SELECT` shows of a row.
+#[derive(Debug, Drop)]
+pub enum Picture {
+    List(Formulas),
+    All,
+    Count,
+}
+
+/// What is added to an operand. It keeps the allocator that `new` takes.
+#[derive(Debug, Drop)]
+pub struct Addends {
+    items: Vec<Addend>,
+}
+
+impl Model for Addends {
+    ghost use Rattle.std.specs.Prelude.{List};
+    ghost use Rattle.memory_keeper.specs.declared.formulas.Addend.{Addend};
+
+    ghost Value = { List Addend };
+
+    ghost view = { λ list. list.items.items };
+}
+
+impl Addends {
+    pub fn new(alloc: Global) -> Addends
+        ensures { result ≡ [] }
+    {
+        Addends {
+            items: Vec::new(alloc),
+        }
+    }
+
+    /// Adds one at the end. What is refused is dropped.
+    pub fn push(&mut self, item: Addend) -> Result<(), NoMemory>
+        ensures ok { OnOk result (self.new ≡ self.old ++ item ∷ []) }
+        ensures err { OnErr result (self.new ≡ self.old) }
+    {
+        match self.items.push(item) {
+            Ok(()) => Ok(()),
+            Err(_) => Err(NoMemory),
+        }
+    }
+
+    pub fn as_slice(&self) -> &[Addend]
+        ensures { result.now ≡ self.now }
+    {
+        self.items.as_slice()
+    }
+}
+
+/// Expressions. It keeps the allocator that `new` takes.
+#[derive(Debug, Drop)]
+pub struct Formulas {
+    items: Vec<Formula>,
+}
+
+impl Model for Formulas {
+    ghost use Rattle.std.specs.Prelude.{List};
+    ghost use Rattle.memory_keeper.specs.declared.formulas.Formula.{Formula};
+
+    ghost Value = { List Formula };
+
+    ghost view = { λ list. list.items.items };
+}
+
+impl Formulas {
+    pub fn new(alloc: Global) -> Formulas
+        ensures { result ≡ [] }
+    {
+        Formulas {
+            items: Vec::new(alloc),
+        }
+    }
+
+    /// Adds one at the end. What is refused is dropped.
+    pub fn push(&mut self, item: Formula) -> Result<(), NoMemory>
+        ensures ok { OnOk result (self.new ≡ self.old ++ item ∷ []) }
+        ensures err { OnErr result (self.new ≡ self.old) }
+    {
+        match self.items.push(item) {
+            Ok(()) => Ok(()),
+            Err(_) => Err(NoMemory),
+        }
+    }
+
+    pub fn as_slice(&self) -> &[Formula]
+        ensures { result.now ≡ self.now }
+    {
+        self.items.as_slice()
+    }
+}
+
+/// Places with expressions. It keeps the allocator that `new` takes.
+#[derive(Debug, Drop)]
+pub struct Equations {
+    items: Vec<Equation>,
+}
+
+impl Model for Equations {
+    ghost use Rattle.std.specs.Prelude.{List};
+    ghost use Rattle.memory_keeper.specs.declared.formulas.Equation.{Equation};
+
+    ghost Value = { List Equation };
+
+    ghost view = { λ list. list.items.items };
+}
+
+impl Equations {
+    pub fn new(alloc: Global) -> Equations
+        ensures { result ≡ [] }
+    {
+        Equations {
+            items: Vec::new(alloc),
+        }
+    }
+
+    /// Adds one at the end. What is refused is dropped.
+    pub fn push(&mut self, item: Equation) -> Result<(), NoMemory>
+        ensures ok { OnOk result (self.new ≡ self.old ++ item ∷ []) }
+        ensures err { OnErr result (self.new ≡ self.old) }
+    {
+        match self.items.push(item) {
+            Ok(()) => Ok(()),
+            Err(_) => Err(NoMemory),
+        }
+    }
+
+    pub fn as_slice(&self) -> &[Equation]
+        ensures { result.now ≡ self.now }
+    {
+        self.items.as_slice()
+    }
+}
+
+/// The value at a place, if there is one.
+pub fn value_at(values: &[Value], place: usize) -> Option<&Value>
+    ensures { value_or_null (option_copied result) ≡ value_at values.now place }
+{
+    values.get(place)
+}
+
+/// The operand's value on a row, if it has one.
+pub fn operand_value<'a>(row: &'a [Value], operand: &'a Operand) -> Option<&'a Value>
+    ensures { value_or_null (option_copied result) ≡ operand_value row.now operand.now }
+{
+    match operand {
+        Operand::Constant(value) => Some(value),
+        Operand::Column(place) => value_at(row, *place),
+    }
+}
+
+/// Whether two values that may be missing are equal. One that is missing is null.
+pub fn are_equal(left: Option<&Value>, right: Option<&Value>) -> bool
+    ensures { result ≡ is_equal (value_or_null (option_copied left.entry)) (value_or_null (option_copied right.entry)) }
+{
+    match (left, right) {
+        (Some(left), Some(right)) => is_equal(left, right),
+        _ => false,
+    }
+}
+
+fn add(row: &[Value], sum: Option<&Value>, addend: &Addend) -> Result<Value, Refusal>
+    ensures { result ≡ sum_of addend.now.minus (value_or_null (option_copied sum.entry)) (operand_value row.now addend.now.operand) }
+{
+    match (sum, operand_value(row, &addend.operand)) {
+        (Some(left), Some(right)) => sum_of(addend.minus, left, right),
+        _ => Ok(Value::Null),
+    }
+}
+
+/// The value of an expression with an operator on a row.
+pub fn sum_on_row(
+    row: &[Value],
+    first: &Operand,
+    second: &Addend,
+    rest: &[Addend],
+) -> Result<Value, Refusal>
+    ensures { result ≡ sums row.now (operand_value row.now first.now) (second.now ∷ rest.now) }
+{
+    let mut sum = add(row, operand_value(row, first), second)?;
+    for addend in rest {
+        sum = add(row, Some(&sum), addend)?;
+    }
+    Ok(sum)
+}
+
+/// The value of an expression on a row.
+pub fn formula_value(alloc: Global, row: &[Value], formula: &Formula) -> Result<Value, Fail>
+    ensures { Gives (formula_value row.now formula.now) result }
+{
+    match formula.rest.as_slice() {
+        [] => Ok(copy_or_null(alloc, operand_value(row, &formula.first))?),
+        [addend, rest @ ..] => Ok(sum_on_row(row, &formula.first, addend, rest)?),
+    }
+}
+
+fn equals_sum(left: Option<&Value>, sum: Result<Value, Refusal>) -> Result<bool, Refusal>
+    ensures { result ≡ map_ok (is_equal (value_or_null (option_copied left.entry))) sum }
+{
+    let sum = sum?;
+    Ok(are_equal(left, Some(&sum)))
+}
+
+/// Whether the column equals the expression on the row.
+pub fn is_met(row: &[Value], equation: &Equation) -> Result<bool, Refusal>
+    ensures { result ≡ is_met row.now equation.now }
+{
+    let left = value_at(row, equation.place);
+    let first = &equation.formula.first;
+    match equation.formula.rest.as_slice() {
+        [] => Ok(are_equal(left, operand_value(row, first))),
+        [second, rest @ ..] => equals_sum(left, sum_on_row(row, first, second, rest)),
+    }
+}

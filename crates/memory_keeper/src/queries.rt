@@ -1,0 +1,173 @@
+// Queries on the tables of a database.
+ghost use Rattle.std.specs.Prelude.{◌≡◌, ◌<◌, ◌∷◌, ◌++◌, [], Some, Ok, Err, IfOk, IfErr, length, slice_get};
+ghost use Rattle.engine_core.specs.Results.{IsSmall};
+ghost use Rattle.memory_keeper.specs.Each.{Gives, Refuses, Changes};
+ghost use Rattle.memory_keeper.specs.Tables.{insert, update, delete};
+ghost use Rattle.memory_keeper.specs.Exec.{no_columns, table_place, table_of, on_table, created, selected_from, run_query};
+
+use crate::create::new_table;
+use crate::delete::delete;
+use crate::fail::{Fail, Refusal};
+use crate::insert::insert;
+use crate::resolve::is_same_name;
+use crate::rows::done;
+use crate::select::select;
+use crate::tables::{Row, Table};
+use crate::update::update;
+use hrana_stmt::StmtResult;
+use hrana_value::{Txt, Value, Values};
+use keeper_dialect::{ColDef, ColExpr, ColExprs, NameList, Query, Shown, Tuples};
+use std::alloc::Global;
+
+fn place_of_table(tables: &[Table], name: &str) -> Option<usize>
+    ensures { result ≡ table_place tables.now name.now }
+{
+    tables
+        .iter()
+        .position(|table| is_same_name(table.name.as_str(), name))
+}
+
+/// The place of the table of a name.
+fn table_of(tables: &[Table], name: &str) -> Result<usize, Refusal>
+    ensures ok { IfOk result (λ place. (table : Table) → slice_get tables.now place ≡ Some table → table_of tables.now name.now ≡ Ok (place, table)) }
+    ensures within { IfOk result (λ place. place < length tables.now) }
+    ensures err { IfErr result (λ code. table_of tables.now name.now ≡ Err code) }
+{
+    match place_of_table(tables, name) {
+        Some(place) => Ok(place),
+        None => Err(Refusal::NoTable),
+    }
+}
+
+fn create(
+    alloc: Global,
+    tables: &mut Vec<Table>,
+    name: &Txt,
+    cols: &[ColDef],
+) -> Result<StmtResult, Fail>
+    ensures changes { Changes (created tables.old.items (table_place tables.old.items name.now) name.now cols.now) tables.old.items result tables.new.items }
+    ensures small { IfOk result IsSmall }
+{
+    if place_of_table(tables.as_slice(), name.as_str()).is_some() {
+        return Err(Fail::Refused(Refusal::TableExists));
+    }
+    let table = new_table(alloc, name, cols)?;
+    tables.push(table)?;
+    Ok(done(alloc, 0, None))
+}
+
+/// The one row of a `SELECT` without `FROM`.
+fn no_columns(alloc: Global) -> Row
+    ensures { result ≡ no_columns }
+{
+    Row {
+        rowid: 0,
+        values: Values::new(alloc),
+    }
+}
+
+fn selected_from(
+    alloc: Global,
+    tables: &[Table],
+    name: &Option<Txt>,
+    shown: &Shown,
+    wanted: &Option<ColExpr>,
+    bound: &[Value],
+) -> Result<StmtResult, Fail>
+    ensures gives { Gives (selected_from tables.now name.now shown.now wanted.now bound.now) result }
+    ensures small { IfOk result IsSmall }
+{
+    match name {
+        None => {
+            let row = [no_columns(alloc)];
+            select(alloc, &[], &row, shown, wanted, bound)
+        }
+        Some(name) => {
+            let place = table_of(tables, name.as_str())?;
+            let table = &tables[place];
+            select(
+                alloc,
+                table.columns.as_slice(),
+                table.rows.as_slice(),
+                shown,
+                wanted,
+                bound,
+            )
+        }
+    }
+}
+
+fn insert_into(
+    alloc: Global,
+    tables: &mut Vec<Table>,
+    name: &Txt,
+    names: &Option<NameList>,
+    tuples: &Tuples,
+    bound: &[Value],
+) -> Result<StmtResult, Fail>
+    ensures changes { Changes (on_table tables.old.items name.now (λ t. insert t names.now tuples.now bound.now)) tables.old.items result tables.new.items }
+    ensures small { IfOk result IsSmall }
+{
+    let place = table_of(tables.as_slice(), name.as_str())?;
+    insert(alloc, &mut tables[place], names, tuples.as_slice(), bound)
+}
+
+fn update_in(
+    alloc: Global,
+    tables: &mut Vec<Table>,
+    name: &Txt,
+    sets: &ColExprs,
+    wanted: &Option<ColExpr>,
+    bound: &[Value],
+) -> Result<StmtResult, Fail>
+    ensures changes { Changes (on_table tables.old.items name.now (λ t. update t sets.now wanted.now bound.now)) tables.old.items result tables.new.items }
+    ensures small { IfOk result IsSmall }
+{
+    let place = table_of(tables.as_slice(), name.as_str())?;
+    update(alloc, &mut tables[place], sets.as_slice(), wanted, bound)
+}
+
+fn delete_from(
+    alloc: Global,
+    tables: &mut Vec<Table>,
+    name: &Txt,
+    wanted: &Option<ColExpr>,
+    bound: &[Value],
+) -> Result<StmtResult, Fail>
+    ensures changes { Changes (on_table tables.old.items name.now (λ t. delete t wanted.now bound.now)) tables.old.items result tables.new.items }
+    ensures small { IfOk result IsSmall }
+{
+    let place = table_of(tables.as_slice(), name.as_str())?;
+    delete(alloc, &mut tables[place], wanted, bound)
+}
+
+/// Runs a query on the tables.
+pub fn run_query(
+    alloc: Global,
+    tables: &mut Vec<Table>,
+    bound: &[Value],
+    query: &Query,
+) -> Result<StmtResult, Fail>
+    ensures changes { Changes (run_query tables.old.items bound.now query.now) tables.old.items result tables.new.items }
+    ensures small { IfOk result IsSmall }
+{
+    match query {
+        Query::Create { table, cols } => create(alloc, tables, table, cols.as_slice()),
+        Query::Insert {
+            table,
+            names,
+            tuples,
+        } => insert_into(alloc, tables, table, names, tuples, bound),
+        Query::Select {
+            shown,
+            table,
+            filter,
+        } => selected_from(alloc, tables.as_slice(), table, shown, filter, bound),
+        Query::Update {
+            table,
+            sets,
+            filter,
+        } => update_in(alloc, tables, table, sets, filter, bound),
+        Query::Delete { table, filter } => delete_from(alloc, tables, table, filter, bound),
+    }
+}

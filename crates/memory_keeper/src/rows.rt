@@ -1,0 +1,135 @@
+// Which rows a condition chooses, and what is made of them.
+ghost use Rattle.std.specs.Prelude.{◌≡◌, ◌≤◌, [], ◌++◌, length, IfOk};
+ghost use Rattle.std.specs.Option.{option_copied};
+ghost use Rattle.engine_core.specs.Results.{IsSmall};
+ghost use Rattle.memory_keeper.specs.Each.{Gives};
+ghost use Rattle.memory_keeper.specs.Formulas.{assigned};
+ghost use Rattle.memory_keeper.specs.Values.{value_at, value_or_null, is_equal};
+ghost use Rattle.memory_keeper.specs.Tables.{is_chosen, stays, chosen_count, has_key, is_taken, breaks_key, keeps_key, done};
+
+use crate::fail::{Fail, Refusal};
+use crate::formulas::{Equation, formula_value, is_met};
+use crate::tables::Row;
+use crate::values::{is_equal, is_null};
+use hrana_stmt::{Cols, Rows, StmtResult};
+use hrana_value::{Value, Values};
+use std::alloc::Global;
+
+/// Whether a row is chosen.
+pub fn is_chosen(condition: &Option<Equation>, row: &Row) -> Result<bool, Refusal>
+    ensures { result ≡ is_chosen condition.now row.now }
+{
+    match condition {
+        None => Ok(true),
+        Some(condition) => is_met(row.values.as_slice(), condition),
+    }
+}
+
+/// Whether a row isn't chosen.
+pub fn stays(condition: &Option<Equation>, row: &Row) -> bool
+    ensures { result ≡ stays condition.now row.now }
+{
+    match is_chosen(condition, row) {
+        Ok(chosen) => !chosen,
+        Err(_) => true,
+    }
+}
+
+/// How many rows are chosen.
+pub fn chosen_count(condition: &Option<Equation>, rows: &[Row]) -> Result<usize, Refusal>
+    ensures count { result ≡ chosen_count condition.now rows.now }
+    ensures within { IfOk result (λ count. count ≤ length rows.now) }
+{
+    let mut count = 0;
+    for row in rows {
+        if is_chosen(condition, row)? {
+            count += 1;
+        }
+    }
+    Ok(count)
+}
+
+/// The row with the value of each expression at its place. The expressions have their values on the old row.
+pub fn assigned(
+    alloc: Global,
+    old: &[Value],
+    mut row: Vec<Value>,
+    sets: &[Equation],
+) -> Result<Values, Fail>
+    ensures { Gives (assigned old.now row.items sets.now) result }
+{
+    for set in sets {
+        let value = formula_value(alloc, old, &set.formula)?;
+        if set.place < row.len() {
+            row[set.place] = value;
+        }
+    }
+    Ok(Values::from_vec(row))
+}
+
+fn is_at(place: usize, row: &Row, value: &Value) -> bool
+    ensures { result ≡ is_equal (value_at row.now.values place) value.now }
+{
+    match row.values.as_slice().get(place) {
+        Some(key) => is_equal(key, value),
+        None => false,
+    }
+}
+
+/// Whether a row has this key.
+pub fn has_key(place: usize, rows: &[Row], value: &Value) -> bool
+    ensures { result ≡ has_key place rows.now value.now }
+{
+    rows.iter().any(|row| is_at(place, row, value))
+}
+
+/// Whether a key is null or missing, or that of a row before these or among them.
+fn is_taken(place: usize, before: &[Row], rows: &[Row], key: Option<&Value>) -> bool
+    ensures { result ≡ is_taken place (before.now ++ rows.now) (value_or_null (option_copied key.entry)) }
+{
+    let Some(key) = key else {
+        return true;
+    };
+    if is_null(key) {
+        return true;
+    }
+    if has_key(place, before, key) {
+        return true;
+    }
+    has_key(place, rows, key)
+}
+
+/// Whether the key of a new row is null, or that of a row before these or among them.
+pub fn breaks_key(key: Option<usize>, before: &[Row], rows: &[Row], values: &[Value]) -> bool
+    ensures { result ≡ breaks_key key (before.now ++ rows.now) values.now }
+{
+    match key {
+        None => false,
+        Some(place) => is_taken(place, before, rows, values.get(place)),
+    }
+}
+
+/// Whether no row breaks the key of those before it.
+pub fn keeps_key(key: Option<usize>, rows: &[Row]) -> bool
+    ensures { result ≡ keeps_key key [] rows.now }
+{
+    for (place, row) in rows.iter().enumerate() {
+        if breaks_key(key, &rows[..place], &[], row.values.as_slice()) {
+            return false;
+        }
+    }
+    true
+}
+
+/// What a statement without rows is answered.
+pub fn done(alloc: Global, count: usize, last_rowid: Option<i64>) -> StmtResult
+    ensures given { result ≡ done count last_rowid }
+    ensures small { IsSmall result }
+{
+    StmtResult {
+        cols: Cols::new(alloc),
+        rows: Rows::new(alloc),
+        affected: count as u64,
+        last_rowid,
+    }
+}

@@ -1,0 +1,119 @@
+// `UPDATE`: all new rows are made from the old ones before the first is put in.
+ghost use Rattle.std.specs.Prelude.{◌≡◌, ◌≤◌, ◌∷◌, [], length, Ok, IfOk, IfErr};
+ghost use Rattle.engine_core.specs.Results.{IsSmall};
+ghost use Rattle.memory_keeper.specs.Each.{somes, Gives, Refuses, Changes};
+ghost use Rattle.memory_keeper.specs.Tables.{renewal, renewed_row, all_renewed, update};
+
+use crate::fail::{Fail, Refusal};
+use crate::formulas::Equation;
+use crate::resolve::{condition_of, equations_of};
+use crate::rows::{assigned, done, is_chosen, keeps_key};
+use crate::tables::{Row, Table, TableRows};
+use hrana_stmt::StmtResult;
+use hrana_value::{NoMemory, Value, Values};
+use keeper_dialect::ColExpr;
+use std::alloc::Global;
+
+/// New rows, and how many of them are changed.
+#[derive(Drop)]
+struct Renewed {
+    rows: Vec<Row>,
+    count: usize,
+}
+
+fn values_copied(alloc: Global, values: &[Value]) -> Result<Vec<Value>, NoMemory>
+    ensures { IfOk result (λ copies. copies.items ≡ values.now) }
+{
+    let mut copies = Vec::new(alloc);
+    for value in values {
+        copies.push(value.copy(alloc)?)?;
+    }
+    Ok(copies)
+}
+
+/// The new values of a row, if it is chosen.
+fn renewal(
+    alloc: Global,
+    condition: &Option<Equation>,
+    sets: &[Equation],
+    row: &Row,
+) -> Result<Option<Values>, Fail>
+    ensures { Gives (renewal condition.now sets.now row.now) result }
+{
+    if !is_chosen(condition, row)? {
+        return Ok(None);
+    }
+    let old = row.values.as_slice();
+    let new = values_copied(alloc, old)?;
+    Ok(Some(assigned(alloc, old, new, sets)?))
+}
+
+fn renewed_row(alloc: Global, row: &Row, new: Option<Values>) -> Result<Row, NoMemory>
+    ensures { IfOk result (λ renewed. renewed ≡ renewed_row row.now new) }
+{
+    match new {
+        None => row.copy(alloc),
+        Some(values) => Ok(Row {
+            rowid: row.rowid,
+            values,
+        }),
+    }
+}
+
+fn change_count(new: &Option<Values>) -> usize
+    ensures count { result ≡ length (somes (new.now ∷ [])) }
+    ensures small { result ≤ 1 }
+{
+    match new {
+        Some(_) => 1,
+        None => 0,
+    }
+}
+
+fn all_renewed(
+    alloc: Global,
+    condition: &Option<Equation>,
+    sets: &[Equation],
+    rows: &[Row],
+) -> Result<Renewed, Fail>
+    ensures ok { IfOk result (λ new. all_renewed condition.now sets.now rows.now ≡ Ok (new.rows.items, new.count)) }
+    ensures err { IfErr result (Refuses (all_renewed condition.now sets.now rows.now)) }
+{
+    let mut new_rows = Vec::new(alloc);
+    let mut count = 0;
+    for row in rows {
+        let new = renewal(alloc, condition, sets, row)?;
+        count += change_count(&new);
+        new_rows.push(renewed_row(alloc, row, new)?)?;
+    }
+    Ok(Renewed {
+        rows: new_rows,
+        count,
+    })
+}
+
+/// Runs an `UPDATE` on its table.
+pub fn update(
+    alloc: Global,
+    table: &mut Table,
+    sets: &[ColExpr],
+    wanted: &Option<ColExpr>,
+    bound: &[Value],
+) -> Result<StmtResult, Fail>
+    ensures changes { Changes (update table.old sets.now wanted.now bound.now) table.old result table.new }
+    ensures small { IfOk result IsSmall }
+{
+    let equations = equations_of(alloc, table.columns.as_slice(), bound, sets)?;
+    let condition = condition_of(alloc, table.columns.as_slice(), bound, wanted)?;
+    let Renewed { rows, count } = all_renewed(
+        alloc,
+        &condition,
+        equations.as_slice(),
+        table.rows.as_slice(),
+    )?;
+    if !keeps_key(table.key, rows.as_slice()) {
+        return Err(Fail::Refused(Refusal::Constraint));
+    }
+    table.rows = TableRows::from_vec(rows);
+    Ok(done(alloc, count, None))
+}
