@@ -1,8 +1,9 @@
-//! The program `hrana`: the top call over standard input and output and the plain keeper.
+//! The program `hrana`: the top call over standard input and output and the keeper in memory.
 #![tactic(auto)]
 
-use engine_core::{PlainKeeper, ReaderSource, WriterSink};
+use engine_core::{ReaderSource, WriterSink};
 use hrana_serve::{Status, World, hrana};
+use memory_keeper::MemoryKeeper;
 use std::process::ExitCode;
 use std::{env, io};
 
@@ -60,7 +61,7 @@ fn print_text(rt: &HostRuntime, text: &str) -> Status {
 /// Runs the words over standard input and output.
 fn run_words(rt: &HostRuntime, words: &[&str]) -> Status {
     let alloc = rt.alloc();
-    let Ok(engine) = PlainKeeper::new(alloc) else {
+    let Ok(engine) = MemoryKeeper::new(alloc) else {
         return Status::NoMemory;
     };
     let mut world = World {
