@@ -6,7 +6,7 @@ use Rattle.std.proofs.lemmas.Result.{err_from_is_err_and}
 use Rattle.std.specs.Result.{IsErrAnd, IfErr}
 use Rattle.memory_keeper.specs.declared.fail.Fail.{Fail}
 use Rattle.memory_keeper.specs.declared.fail.Fail.TheVariants.{Refused, NoMemory}
-use Rattle.memory_keeper.specs.Each.{and_then, map_ok, each, somes, Refuses, Gives}
+use Rattle.memory_keeper.specs.Each.{and_then, map_ok, each, Refuses, Gives}
 
 -- the results of two lists, one after the other
 abbrev pub joined : {B : Type 0} → Result (List B) Refusal → Result (List B) Refusal → Result (List B) Refusal

@@ -1,7 +1,7 @@
 -- Lemmas on what is made of rows, one after another.
-use Rattle.std.proofs.Common.{◌≡◌, ℕ, ◌+◌, ◌<◌, ◌≤◌, Bool, true, false, cond, List, [], ◌∷◌, ◌++◌, length, get_or, take, drop, map, Option, Some, None, Result, Ok, Err, suc, refl, sym, ap, subst, ◌∙◌, append_assoc, length-append, arith}
-use Rattle.std.specs.Prelude.{count_by, not, ◌&&◌}
-use Rattle.std.proofs.lemmas.List.{take_more, take_all, drop_more}
+use Rattle.std.proofs.Common.{◌≡◌, ℕ, ◌+◌, ◌<◌, Bool, cond, List, [], ◌∷◌, ◌++◌, length, get_or, take, Option, Some, None, Result, Ok, Err, suc, refl, sym, ap, ◌∙◌, length-append, arith}
+use Rattle.std.specs.Prelude.{count_by}
+use Rattle.std.proofs.lemmas.List.{take_more}
 use Rattle.std.proofs.lemmas.List.Sums.{sum_by_push}
 use Rattle.memory_keeper.specs.declared.fail.Refusal.{Refusal}
 use Rattle.hrana_value.specs.declared.value.Value.{Value}
@@ -10,7 +10,7 @@ use Rattle.memory_keeper.specs.declared.fail.Fail.TheVariants.{Refused, NoMemory
 use Rattle.memory_keeper.specs.declared.formulas.Equation.{Equation}
 use Rattle.memory_keeper.specs.declared.formulas.Picture.{Picture}
 use Rattle.memory_keeper.specs.declared.tables.Row.{Row}
-use Rattle.memory_keeper.specs.Each.{and_then, map_ok, each, somes, Refuses, Gives}
+use Rattle.memory_keeper.specs.Each.{and_then, map_ok, each, somes, Refuses}
 use Rattle.memory_keeper.specs.Tables.{is_chosen, chosen_count, row_shown, chosen_rows, renewal, renewed_row, renewed, all_renewed}
 use Rattle.memory_keeper.proofs.EachLemmas.{each_more, each_refused, map_ok-Ok}
 

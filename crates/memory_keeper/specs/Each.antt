@@ -1,5 +1,5 @@
 -- What may be refused: one step after another, and one step for each of a list.
-use Rattle.std.specs.Prelude.{◌≡◌, Bool, true, false, List, [], ◌∷◌, Option, Some, None, Result, Ok, Err}
+use Rattle.std.specs.Prelude.{◌≡◌, List, [], ◌∷◌, Option, Some, None, Result, Ok, Err}
 use Rattle.memory_keeper.specs.declared.fail.Refusal.{Refusal}
 use Rattle.memory_keeper.specs.declared.fail.Fail.{Fail}
 use Rattle.memory_keeper.specs.declared.fail.Fail.TheVariants.{Refused, NoMemory}

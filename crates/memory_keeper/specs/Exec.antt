@@ -73,7 +73,8 @@ is_select (Select shown name wanted) = true
 is_select (Update name sets wanted) = false
 is_select (Delete name wanted) = false
 
--- A statement whose class is `Read` may only read. No text of that class is another query (`no_reading_text_writes`).
+-- A statement of class `Read` may only read. A text has this class where it begins with `SELECT`, `VALUES` or `WITH`, and a
+-- query that writes begins with another word, so this refuses nothing.
 abbrev pub fits_class : Class → Query → Bool
 fits_class class query = not (is_read class) || is_select query
 

@@ -1,5 +1,5 @@
 -- The keeper's statements are lawful: a refusal leaves the database, and so does a read.
-use Rattle.std.proofs.Common.{◌≡◌, ℕ, List, Bool, true, false, not, ◌||◌, Option, Result, Ok, Err, refl, sym, subst, true≢false}
+use Rattle.std.proofs.Common.{◌≡◌, ℕ, List, Bool, true, not, ◌||◌, Result, Ok, Err, refl, sym, subst, true≢false}
 use Rattle.std.specs.Prelude.{if◌then◌else◌}
 use Rattle.serial_order.specs.Serial.{Meaning}
 use Rattle.sql_text.specs.declared.class.Class.{Class}

@@ -11,10 +11,8 @@ use Rattle.engine_core.specs.Results.{rows_size}
 use Rattle.keeper_dialect.specs.declared.query.Expr.{Expr}
 use Rattle.keeper_dialect.specs.declared.query.ColDef.{ColDef}
 use Rattle.keeper_dialect.specs.declared.query.ColExpr.{ColExpr}
-use Rattle.keeper_dialect.specs.declared.query.Item.{Item}
 use Rattle.keeper_dialect.specs.declared.query.Shown.{Shown}
 use Rattle.keeper_dialect.specs.declared.query.Shown.TheVariants as shown
-use Rattle.memory_keeper.specs.declared.formulas.Formula.{Formula}
 use Rattle.memory_keeper.specs.declared.formulas.Equation.{Equation}
 use Rattle.memory_keeper.specs.declared.formulas.Picture.{Picture}
 use Rattle.memory_keeper.specs.declared.formulas.Picture.TheVariants as picture

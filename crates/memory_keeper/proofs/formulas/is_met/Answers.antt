@@ -1,4 +1,4 @@
-use Rattle.std.proofs.Common.{◌≡◌, ap, length, arith}
+use Rattle.std.proofs.Common.{ap, length, arith}
 use Rattle.std.proofs.lemmas.List.{take_rest}
 use Rattle.memory_keeper.specs.Values.{value_at, is_equal}
 use Rattle.memory_keeper.proofs.FormulaLemmas.{first_only, with_second}

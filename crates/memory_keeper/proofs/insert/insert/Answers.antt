@@ -1,4 +1,4 @@
-use Rattle.std.proofs.Common.{◌≡◌, ◌+◌, ◌<◌, length, ap, arith}
+use Rattle.std.proofs.Common.{length, ap, arith}
 use Rattle.memory_keeper.specs.declared.tables.Table.{Table}
 use Rattle.memory_keeper.specs.Tables.{tuple_of}
 use Rattle.memory_keeper.proofs.RowLemmas.{length-each}

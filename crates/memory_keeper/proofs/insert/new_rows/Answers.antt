@@ -1,4 +1,4 @@
-use Rattle.std.proofs.Common.{◌≡◌, ◌+◌, length, sym, ap, ◌∙◌, length-append, arith}
+use Rattle.std.proofs.Common.{◌≡◌, ◌+◌, length, ap, ◌∙◌, length-append, arith}
 use Rattle.memory_keeper.specs.Tables.{tuples_added}
 use Rattle.memory_keeper.proofs.EachLemmas.{err_refused}
 use Rattle.memory_keeper.proofs.TableLemmas.{tuples_added_more, refuses_tuples}

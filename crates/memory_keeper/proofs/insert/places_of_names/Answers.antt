@@ -1,4 +1,4 @@
-use Rattle.std.proofs.Common.{◌≡◌, ℕ, List, Ok, Err, sym, ap, ◌∙◌, arith}
+use Rattle.std.proofs.Common.{ℕ, List, sym, ap, ◌∙◌, arith}
 use Rattle.memory_keeper.specs.Formulas.{known, place_of}
 use Rattle.memory_keeper.specs.Each.{each}
 use Rattle.memory_keeper.proofs.EachLemmas.{each_more, each_refused, err_refusal}

@@ -1,4 +1,4 @@
-use Rattle.std.proofs.Common.{◌≡◌, length, take, sym, ap, ◌∙◌, arith}
+use Rattle.std.proofs.Common.{◌≡◌, length, ◌∙◌, arith}
 use Rattle.std.specs.List.{zip}
 use Rattle.memory_keeper.specs.Each.{each}
 use Rattle.memory_keeper.specs.Tables.{tuple_equation}

@@ -1,4 +1,4 @@
-use Rattle.std.proofs.Common.{◌≡◌, Ok, sym, ap, ◌∙◌, arith}
+use Rattle.std.proofs.Common.{arith}
 use Rattle.memory_keeper.specs.Tables.{tuple_of}
 use Rattle.memory_keeper.specs.Each.{each}
 use Rattle.memory_keeper.proofs.EachLemmas.{each_more, refuses_each, err_refused}

@@ -1,4 +1,4 @@
-use Rattle.std.proofs.Common.{ap, ◌∙◌}
+use Rattle.std.proofs.Common.{ap}
 use Rattle.memory_keeper.specs.declared.formulas.Picture.TheVariants as picture
 use Rattle.memory_keeper.specs.Each.{map_ok}
 use Rattle.memory_keeper.specs.Tables.{picture_of}

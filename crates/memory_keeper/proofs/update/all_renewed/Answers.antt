@@ -1,6 +1,6 @@
 use Rattle.std.proofs.Common.{◌∷◌, [], ◌++◌, ◌+◌, Ok, length, sym, ap, ◌∙◌, arith}
 use Rattle.memory_keeper.specs.Each.{somes}
-use Rattle.memory_keeper.specs.Tables.{renewal, renewed, renewed_row, all_renewed}
+use Rattle.memory_keeper.specs.Tables.{all_renewed}
 use Rattle.memory_keeper.proofs.EachLemmas.{err_refused}
 use Rattle.memory_keeper.proofs.RowLemmas.{all_renewed_more, refuses_renewed}
 use Rattle.memory_keeper.proofs.update.all_renewed.Goals as goal
