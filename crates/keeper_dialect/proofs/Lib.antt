@@ -3,3 +3,5 @@ pub mod NameLemmas
 pub mod ReadingLemmas
 pub mod Shorter
 pub mod CommaLemmas
+pub mod Exact
+pub mod ExactTerms
