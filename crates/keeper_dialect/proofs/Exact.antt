@@ -4,7 +4,7 @@ use Rattle.keeper_dialect.specs.declared.tokens.Symbol.{Symbol}
 use Rattle.keeper_dialect.specs.Tokens.{Token}
 use Rattle.keeper_dialect.specs.Reading.{Reading, and_then, repeated, symbol_at, place_at}
 use Rattle.keeper_dialect.specs.Terms.{one_at}
-use Rattle.keeper_dialect.specs.Grammar.{Is, here, Then, both, Either, first, second, Repeated, none, more, Single, one}
+use Rattle.keeper_dialect.specs.Grammar.{Is, here, Then, both, Either, first, second, Repeated, none, more, Single, one, Unless, unless}
 use Rattle.keeper_dialect.proofs.ReadingLemmas.{GoesOn, then_ok, same_rest, repeated-goes, repeated-stops, repeated-one, repeated-fail, repeated-zero}
 
 -- a value that stands at the front of tokens, before the others
@@ -29,13 +29,13 @@ pub same_value : {A : Type 0} (x y : A) (rest other : List Token) (r : Reading A
 unfolding value_by
 same_value {A = A} x y rest other r left right = let value : Reading A → A = value_by x in sym (ap value left) ∙ ap value right
 
-record Split {A B : Type 0} (r : Reading A) (k : A → List Token → Reading B) (y : B) (rest : List Token) : Type 0 where
-  x : A
-  mid : List Token
-  before : r ≡ Ok (x, mid)
-  behind : k x mid ≡ Ok (y, rest)
+pub record Split {A B : Type 0} (r : Reading A) (k : A → List Token → Reading B) (y : B) (rest : List Token) : Type 0 where
+  pub x : A
+  pub mid : List Token
+  pub before : r ≡ Ok (x, mid)
+  pub behind : k x mid ≡ Ok (y, rest)
 
-split : {A B : Type 0} (r : Reading A) (k : A → List Token → Reading B) (y : B) (rest : List Token) → and_then r k ≡ Ok (y, rest) → Split r k y rest
+pub split : {A B : Type 0} (r : Reading A) (k : A → List Token → Reading B) (y : B) (rest : List Token) → and_then r k ≡ Ok (y, rest) → Split r k y rest
 unfolding and_then
 split (Ok read) k y rest is = record { x = read.0; mid = read.1; before = refl; behind = is }
 split (Err at) k y rest is = cc is
@@ -131,3 +131,40 @@ module _ {A : Type 0} (P : List A → A → List Token → Type 0) (f g : Symbol
   repeated_complete goes exact done xs us rest (more same x ys vs ws p ps) ends =
       let at = exact.complete done x vs (ws ++ rest) p (follows_part goes exact (done ++ x ∷ []) ys ws rest ps ends) in
       ap (λ ts. repeated next (length ts) done ts) (append_assoc vs ws rest) ∙ repeated-goes next goes done (vs ++ (ws ++ rest)) x (ws ++ rest) at ∙ repeated_complete goes exact (done ++ x ∷ []) ys ws rest ps ends ∙ ap (λ zs. Ok (zs, rest)) (append_assoc done (x ∷ []) ys)
+
+-- the same reading in other words
+pub exact_same : {A : Type 0} (P : A → List Token → Type 0) (f : Symbol → Bool) (at bt : List Token → Reading A) → ((ts : List Token) → bt ts ≡ at ts) → Exact P f at → Exact P f bt
+exact_same P f at bt same exact = record { sound = λ ts x rest is. exact.sound ts x rest (sym (same ts) ∙ is); complete = λ x us rest p follows. same (us ++ rest) ∙ exact.complete x us rest p follows }
+
+-- less may follow
+pub exact_less : {A : Type 0} (P : A → List Token → Type 0) (f g : Symbol → Bool) (at : List Token → Reading A) → ((s : Symbol) → g s ≡ true → f s ≡ true) → Exact P f at → Exact P g at
+exact_less P f g at less exact = record { sound = exact.sound; complete = λ x us rest p follows. exact.complete x us rest p (less (symbol_at rest) follows) }
+
+-- one part or another, by the first token
+pub exact_either : {A : Type 0} (P Q : A → List Token → Type 0) (f : Symbol → Bool) (test : Symbol → Bool) (at bt : List Token → Reading A) → Exact P f at → Exact Q f bt → ((x : A) (us rest : List Token) → P x us → test (symbol_at (us ++ rest)) ≡ true) → ((x : A) (us rest : List Token) → Q x us → f (symbol_at rest) ≡ true → test (symbol_at (us ++ rest)) ≡ false) → Exact (Either P Q) f (λ ts. cond (test (symbol_at ts)) (at ts) (bt ts))
+exact_either {A = A} P Q f test at bt one_way other_way starts differs = record { sound = λ ts x rest is. sound (test (symbol_at ts)) ts x rest is; complete = complete }
+  where
+  sound : (b : Bool) (ts : List Token) (x : A) (rest : List Token) → cond b (at ts) (bt ts) ≡ Ok (x, rest) → Front (Either P Q) x ts rest
+  sound true ts x rest is = let f = one_way.sound ts x rest is in record { front = f.front; is = first x f.front f.is; whole = f.whole }
+  sound false ts x rest is = let f = other_way.sound ts x rest is in record { front = f.front; is = second x f.front f.is; whole = f.whole }
+  complete : (x : A) (us rest : List Token) → Either P Q x us → f (symbol_at rest) ≡ true → cond (test (symbol_at (us ++ rest))) (at (us ++ rest)) (bt (us ++ rest)) ≡ Ok (x, rest)
+  complete x us rest (first y vs p) follows = ap (λ b. cond b (at (vs ++ rest)) (bt (vs ++ rest))) (starts x vs rest p) ∙ one_way.complete x vs rest p follows
+  complete x us rest (second y vs q) follows = ap (λ b. cond b (at (vs ++ rest)) (bt (vs ++ rest))) (differs x vs rest q follows) ∙ other_way.complete x vs rest q follows
+
+-- a part whose value isn't refused
+judged : {A : Type 0} → Bool → ℕ → A → List Token → Reading A
+judged b n x rest = cond b (Err n) (Ok (x, rest))
+
+pub exact_unless : {A : Type 0} (refused : A → Bool) (P : A → List Token → Type 0) (f : Symbol → Bool) (at : List Token → Reading A) (place : List Token → ℕ) → Exact P f at → Exact (Unless refused P) f (λ ts. and_then (at ts) (λ x rest. cond (refused x) (Err (place ts)) (Ok (x, rest))))
+unfolding judged
+exact_unless {A = A} refused P f at place exact = record { sound = sound; complete = complete }
+  where
+  by_test : (b : Bool) (n : ℕ) (x y : A) (ts mid rest : List Token) → refused x ≡ b → Front P x ts mid → judged b n x mid ≡ Ok (y, rest) → Front (Unless refused P) y ts rest
+  by_test true n x y ts mid rest is p read = cc read
+  by_test false n x y ts mid rest is p read = subst (λ z. Front (Unless refused P) z ts rest) (same_value x y mid rest _ refl read) (record { front = p.front; is = unless x p.front p.is is; whole = p.whole ∙ ap (λ us. p.front ++ us) (same_rest x y mid rest _ refl read) })
+  sound : (ts : List Token) (y : A) (rest : List Token) → and_then (at ts) (λ x rest. cond (refused x) (Err (place ts)) (Ok (x, rest))) ≡ Ok (y, rest) → Front (Unless refused P) y ts rest
+  sound ts y rest is =
+      let s = split (at ts) (λ x rest. cond (refused x) (Err (place ts)) (Ok (x, rest))) y rest is in
+      by_test (refused s.x) (place ts) s.x y ts s.mid rest refl (exact.sound ts s.x s.mid s.before) s.behind
+  complete : (x : A) (us rest : List Token) → Unless refused P x us → f (symbol_at rest) ≡ true → and_then (at (us ++ rest)) (λ x more. cond (refused x) (Err (place (us ++ rest))) (Ok (x, more))) ≡ Ok (x, rest)
+  complete x us rest (unless y vs p is) follows = then_ok (at (vs ++ rest)) _ x rest (exact.complete x vs rest p follows) ∙ ap (λ b. judged b (place (vs ++ rest)) x rest) is

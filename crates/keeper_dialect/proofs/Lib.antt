@@ -5,3 +5,5 @@ pub mod Shorter
 pub mod CommaLemmas
 pub mod Exact
 pub mod ExactTerms
+pub mod ExactLists
+pub mod ExactParts

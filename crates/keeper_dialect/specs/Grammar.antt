@@ -44,11 +44,17 @@ pub data Repeated {A : Type 0} (P : List A → A → List Token → Type 0) : Li
 pub data Single {A : Type 0} (value_of : Token → Option A) : A → List Token → Type 0 where
   one : (t : Token) (x : A) → value_of t ≡ Some x → Single value_of x (t ∷ [])
 
-abbrev pub Keyed : Keyword → Unit {0} → List Token → Type 0
-Keyed k = Single (λ t. if is_keyword k t.symbol then Some tt else None)
+-- whether one token is there, which has no other value
+abbrev pub standing : Bool → Option (Unit {0})
+standing b = if b then Some tt else None
 
+-- a reserved word
+abbrev pub Keyed : Keyword → Unit {0} → List Token → Type 0
+Keyed k = Single (λ t. standing (is_keyword k t.symbol))
+
+-- a sign
 abbrev pub Signed : ℕ → Unit {0} → List Token → Type 0
-Signed sign = Single (λ t. if is_sign sign t.symbol then Some tt else None)
+Signed sign = Single (λ t. standing (is_sign sign t.symbol))
 
 -- a word that isn't reserved, or a run between `"` with doubled quotes made single
 abbrev pub Name : List ℕ → List Token → Type 0
@@ -98,7 +104,7 @@ pub data IsItem : Item → List Token → Type 0 where
 
 -- [ word ], a type's name, which means nothing
 abbrev pub TypeName : Unit {0} → List Token → Type 0
-TypeName = Either (Single (λ t. if is_plain_word t.symbol then Some tt else None)) (Is tt)
+TypeName = Either (Then (Single (λ t. standing (is_plain_word t.symbol))) (λ u. Is u)) (Is tt)
 
 -- [ PRIMARY KEY ], and whether it stands; where one came before, none may
 abbrev pub KeyMark : Bool → Bool → List Token → Type 0
