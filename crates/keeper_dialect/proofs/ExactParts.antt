@@ -14,7 +14,7 @@ use Rattle.keeper_dialect.specs.Tokens.{Token}
 use Rattle.keeper_dialect.specs.Reading.{Reading, and_then, separated, symbol_at, place_at, rank_of, is_keyword, is_sign, keyword_at, sign_at}
 use Rattle.keeper_dialect.specs.Terms.{expr_at, name_at, col_expr_at}
 use Rattle.keeper_dialect.specs.Lists.{is_among, is_set, is_col, has_key, new_name_at, name_list_at, names_at, exprs_at, tuple_at, tuples_at, set_at, sets_at, source_text, front, item_at, items_at, is_plain_word, after_type, key_at, col_name_at, col_def_at, cols_at, col_defs_at, most_cols}
-use Rattle.keeper_dialect.specs.Grammar.{Is, here, Then, both, Either, first, second, Single, one, standing, Keyed, Signed, Name, IsExpr, Unless, unless, Separated, Bracketed, NewName, Equation, IsItem, item, TypeName, KeyMark, IsColDef, Names, Tuple}
+use Rattle.keeper_dialect.specs.Grammar.{Is, here, Then, both, Either, first, second, Single, one, standing, Keyed, Signed, Name, IsExpr, Unless, unless, Separated, Bracketed, NewName, Equation, IsItem, item, Nothing, TypeName, KeyMark, IsColDef, Names, Tuple}
 use Rattle.keeper_dialect.proofs.ReadingLemmas.{Within, then_ok, same_rest}
 use Rattle.keeper_dialect.proofs.Shorter.{expr_within, new_name_within, tuple_within, set_within, item_within, col_def_within}
 use Rattle.keeper_dialect.proofs.Exact.{Front, Exact, any, split, same_value, exact_is, exact_then, exact_next, exact_one, exact_same, exact_less, exact_either, exact_unless}
@@ -179,3 +179,126 @@ exact_perhaps {A = A} test Q R f at bt ended exact other differs = record { soun
   complete : (x : A) (us rest : List Token) → Either (Led test Q) R x us → f (symbol_at rest) ≡ true → cond (test (symbol_at (us ++ rest))) (at (drop 1 (us ++ rest))) (bt (us ++ rest)) ≡ Ok (x, rest)
   complete x us rest (first y vs p) follows = let by = led_complete test Q f at exact x vs rest p follows in ap (λ b. cond b (at (drop 1 (vs ++ rest))) (bt (vs ++ rest))) by.tested ∙ by.read
   complete x us rest (second y vs q) follows = ap (λ b. cond b (at (drop 1 (vs ++ rest))) (bt (vs ++ rest))) (differs x vs rest q follows) ∙ other.complete x vs rest q follows
+
+not_true : (b : Bool) → not b ≡ true → b ≡ false
+not_true true wrong = cc wrong
+not_true false right = refl
+
+type_at : List Token → Reading (Unit {0})
+type_at ts = cond (is_plain_word (symbol_at ts)) (Ok (tt, drop 1 ts)) (Ok (tt, ts))
+
+exact_type : Exact TypeName no_word type_at
+unfolding type_at no_word
+exact_type = exact_perhaps is_plain_word Nothing Nothing no_word (λ ts. Ok (tt, ts)) (λ ts. Ok (tt, ts)) refl (exact_is tt no_word) (exact_is tt no_word) differs
+  where
+  differs : (x : Unit {0}) (us rest : List Token) → Nothing x us → no_word (symbol_at rest) ≡ true → is_plain_word (symbol_at (us ++ rest)) ≡ false
+  differs x us rest here follows = not_true (is_plain_word (symbol_at rest)) follows
+
+key_word_at : List Token → Reading Bool
+key_word_at ts = and_then (keyword_at keyword.Key ts) (λ _ rest. Ok (true, rest))
+
+abbrev KeyWords : Bool → List Token → Type 0
+KeyWords = Either (Then (Keyed keyword.Primary) (λ _. Then (Keyed keyword.Key) (λ _. Is true))) (Is false)
+
+exact_key_words : Exact KeyWords closes (λ ts. cond (is_keyword keyword.Primary (symbol_at ts)) (key_word_at (drop 1 ts)) (Ok (false, ts)))
+unfolding key_word_at
+exact_key_words = exact_perhaps (is_keyword keyword.Primary) (Then (Keyed keyword.Key) (λ _. Is true)) (Is false) closes key_word_at (λ ts. Ok (false, ts)) refl (exact_next (Keyed keyword.Key) (λ _. Is true) closes (keyword_at keyword.Key) (λ _ rest. Ok (true, rest)) (exact_keyword keyword.Key) (λ _. exact_is true closes)) (exact_is false closes) differs
+  where
+  differs : (x : Bool) (us rest : List Token) → Is false x us → closes (symbol_at rest) ≡ true → is_keyword keyword.Primary (symbol_at (us ++ rest)) ≡ false
+  differs x us rest here follows = closes_primary (symbol_at rest) follows
+
+and_false : (b : Bool) → (b && false) ≡ false
+and_false true = refl
+and_false false = refl
+
+exact_key : (had : Bool) → Exact (KeyMark had) closes (key_at had)
+unfolding key_at key_word_at
+exact_key false = record { sound = sound; complete = complete }
+  where
+  sound : (ts : List Token) (x : Bool) (rest : List Token) → cond (is_keyword keyword.Primary (symbol_at ts)) (key_word_at (drop 1 ts)) (Ok (false, ts)) ≡ Ok (x, rest) → Front (KeyMark false) x ts rest
+  sound ts x rest is = let f = exact_key_words.sound ts x rest is in record { front = f.front; is = unless x f.front f.is (and_false x); whole = f.whole }
+  complete : (x : Bool) (us rest : List Token) → KeyMark false x us → closes (symbol_at rest) ≡ true → cond (is_keyword keyword.Primary (symbol_at (us ++ rest))) (key_word_at (drop 1 (us ++ rest))) (Ok (false, us ++ rest)) ≡ Ok (x, rest)
+  complete x us rest (unless y vs p fine) follows = exact_key_words.complete x vs rest p follows
+exact_key true = record { sound = λ ts x rest is. sound (is_keyword keyword.Primary (symbol_at ts)) ts x rest is; complete = complete }
+  where
+  marked : Bool → List Token → Reading Bool
+  marked b ts = cond b (Err (place_at ts)) (Ok (false, ts))
+  sound : (b : Bool) (ts : List Token) (x : Bool) (rest : List Token) → marked b ts ≡ Ok (x, rest) → Front (KeyMark true) x ts rest
+  sound true ts x rest is = cc is
+  sound false ts x rest is = subst (λ z. Front (KeyMark true) z ts rest) (same_value false x ts rest _ refl is) (record { front = []; is = unless false [] (second false [] here) refl; whole = same_rest false x ts rest _ refl is })
+  complete : (x : Bool) (us rest : List Token) → KeyMark true x us → closes (symbol_at rest) ≡ true → marked (is_keyword keyword.Primary (symbol_at (us ++ rest))) (us ++ rest) ≡ Ok (x, rest)
+  complete x us rest (unless y vs (second z ws here) fine) follows = ap (λ b. marked b rest) (closes_primary (symbol_at rest) follows)
+  complete x us rest (unless y vs (first z ws (both u w os ps p (both v k qs rs q here))) wrong) follows = cc wrong
+
+abbrev ColName : List ColDef → List ℕ → List Token → Type 0
+ColName done = Unless (λ name. not (nat_lt (length done) most_cols)) (NewName (is_col done))
+
+exact_col_name : (done : List ColDef) → Exact (ColName done) any (col_name_at done)
+unfolding col_name_at
+exact_col_name done = record { sound = λ ts x rest is. sound (nat_lt (length done) most_cols) ts x rest refl is; complete = complete }
+  where
+  sound : (b : Bool) (ts : List Token) (x : List ℕ) (rest : List Token) → nat_lt (length done) most_cols ≡ b → cond b (new_name_at (is_col done) ts) (Err (place_at ts)) ≡ Ok (x, rest) → Front (ColName done) x ts rest
+  sound true ts x rest few is = let f = (exact_new_name (is_col done)).sound ts x rest is in record { front = f.front; is = unless x f.front f.is (ap not few); whole = f.whole }
+  sound false ts x rest few is = cc is
+  few_of : (b : Bool) → not b ≡ false → b ≡ true
+  few_of true right = refl
+  few_of false wrong = cc wrong
+  complete : (x : List ℕ) (us rest : List Token) → ColName done x us → true ≡ true → cond (nat_lt (length done) most_cols) (new_name_at (is_col done) (us ++ rest)) (Err (place_at (us ++ rest))) ≡ Ok (x, rest)
+  complete x us rest (unless y vs p few) follows = ap (λ b. cond b (new_name_at (is_col done) (vs ++ rest)) (Err (place_at (vs ++ rest)))) (few_of (nat_lt (length done) most_cols) few) ∙ (exact_new_name (is_col done)).complete x vs rest p refl
+
+col_rest : List ColDef → List ℕ → List Token → Reading ColDef
+col_rest done name after = and_then (key_at (has_key done) (after_type (symbol_at after) after)) (λ key rest. Ok (record { name = name; key = key }, rest))
+
+typed_rest : List ColDef → List ℕ → List Token → Reading ColDef
+typed_rest done name after = and_then (type_at after) (λ _ mid. and_then (key_at (has_key done) mid) (λ key rest. Ok (record { name = name; key = key }, rest)))
+
+same_typed : (done : List ColDef) (name : List ℕ) (ts : List Token) → col_rest done name ts ≡ typed_rest done name ts
+unfolding col_rest typed_rest type_at and_then
+same_typed done name ts = by_word (is_plain_word (symbol_at ts))
+  where
+  made : Bool → List Token → Reading ColDef
+  made key rest = Ok (record { name = name; key = key }, rest)
+  typed : Bool → Reading (Unit {0})
+  typed b = cond b (Ok (tt, drop 1 ts)) (Ok (tt, ts))
+  by_word : (b : Bool) → and_then (key_at (has_key done) (cond b (drop 1 ts) ts)) made ≡ and_then (typed b) (λ _ mid. and_then (key_at (has_key done) mid) made)
+  by_word true = refl
+  by_word false = refl
+
+closes_no_word : (s : Symbol) → closes s ≡ true → no_word s ≡ true
+unfolding no_word
+closes_no_word s is = ap not (closes_word s is)
+
+keyword_is : (k : Keyword) (s : Symbol) → is_keyword k s ≡ true → is_plain_word s ≡ false
+keyword_is k (symbol.Keyword j) is = refl
+keyword_is k symbol.Word is = cc is
+keyword_is k symbol.QuotedName is = refl
+keyword_is k symbol.Text is = refl
+keyword_is k symbol.Number is = refl
+keyword_is k (symbol.Parameter n) is = refl
+keyword_is k (symbol.Sign b) is = refl
+keyword_is k symbol.Stray is = refl
+keyword_is k symbol.End is = refl
+
+abbrev KeyedCol : List ColDef → List ℕ → ColDef → List Token → Type 0
+KeyedCol done name = Then (KeyMark (has_key done)) (λ key. Is (record { name = name; key = key }))
+
+key_follows : (done : List ColDef) (name : List ℕ) (y : ColDef) (vs rest : List Token) → KeyedCol done name y vs → closes (symbol_at rest) ≡ true → no_word (symbol_at (vs ++ rest)) ≡ true
+unfolding no_word
+key_follows done name y vs rest (both key z us ws (unless k as1 (second w bs here) fine) here) follows = closes_no_word (symbol_at rest) follows
+key_follows done name y vs rest (both key z us ws (unless k as1 (first w bs (both u v os ps (one t m is) q)) fine) here) follows = ap not (keyword_is keyword.Primary t.symbol (found_some (is_keyword keyword.Primary t.symbol) m is))
+
+exact_col_rest : (done : List ColDef) (name : List ℕ) → Exact (Then TypeName (λ _. KeyedCol done name)) closes (typed_rest done name)
+unfolding typed_rest
+exact_col_rest done name =
+    exact_then TypeName (λ _. KeyedCol done name) no_word closes type_at _ exact_type
+    (λ _. exact_then (KeyMark (has_key done)) (λ key. Is (record { name = name; key = key })) closes closes (key_at (has_key done)) (λ key rest. Ok (record { name = name; key = key }, rest)) (exact_key (has_key done)) (λ key. exact_is (record { name = name; key = key }) closes) (λ key y vs rest q follows. is_free (record { name = name; key = key }) y closes vs rest q follows))
+    (λ u y vs rest q follows. key_follows done name y vs rest q follows)
+
+exact_col_def : (done : List ColDef) → Exact (IsColDef done) closes (col_def_at done)
+unfolding col_def_at col_rest
+exact_col_def done =
+    exact_next (ColName done) (λ name. Then TypeName (λ _. KeyedCol done name)) closes (col_name_at done) (col_rest done) (exact_col_name done) (λ name. exact_same (Then TypeName (λ _. KeyedCol done name)) closes (typed_rest done name) (col_rest done name) (λ ts. same_typed done name ts) (exact_col_rest done name))
+
+pub exact_col_defs : Exact (Bracketed (Separated IsColDef)) any col_defs_at
+unfolding col_defs_at cols_at
+exact_col_defs = exact_brackets (Separated IsColDef) closes_list _ refl (exact_separated IsColDef col_def_at (record { each = exact_col_def; within = λ done ts. col_def_within done ts (length ts) (omega arith) }))

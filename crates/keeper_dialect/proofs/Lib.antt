@@ -7,3 +7,4 @@ pub mod Exact
 pub mod ExactTerms
 pub mod ExactLists
 pub mod ExactParts
+pub mod ExactQueries

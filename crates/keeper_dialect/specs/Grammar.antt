@@ -17,9 +17,10 @@ use Rattle.keeper_dialect.specs.declared.query.Shown.{Shown}
 use Rattle.keeper_dialect.specs.declared.query.Shown.TheVariants as shown
 use Rattle.keeper_dialect.specs.declared.query.Query.{Query}
 use Rattle.keeper_dialect.specs.declared.query.Query.TheVariants as query
-use Rattle.keeper_dialect.specs.Tokens.{Token}
-use Rattle.keeper_dialect.specs.Reading.{is_keyword, is_sign}
+use Rattle.keeper_dialect.specs.Tokens.{Token, tokens_of}
+use Rattle.keeper_dialect.specs.Reading.{symbol_at, is_keyword, is_sign}
 use Rattle.keeper_dialect.specs.Terms.{name_of, signed, unquoted, without_quotes, operator_of}
+use Rattle.keeper_dialect.specs.Query.{is_end}
 use Rattle.keeper_dialect.specs.Lists.{is_among, is_set, is_col, has_key, is_plain_word, most_cols, source_text}
 
 -- a value that takes no token
@@ -102,9 +103,12 @@ Equation N = Then N (λ column. Then (Signed 61) (λ _. Then IsExpr (λ e. Is (r
 pub data IsItem : Item → List Token → Type 0 where
   item : (e : Expr) (us : List Token) → IsExpr e us → IsItem (record { text = source_text us; expr = e }) us
 
+abbrev pub Nothing : Unit {0} → List Token → Type 0
+Nothing = Is tt
+
 -- [ word ], a type's name, which means nothing
 abbrev pub TypeName : Unit {0} → List Token → Type 0
-TypeName = Either (Then (Single (λ t. standing (is_plain_word t.symbol))) (λ u. Is u)) (Is tt)
+TypeName = Either (Then (Single (λ t. standing (is_plain_word t.symbol))) (λ _. Nothing)) Nothing
 
 -- [ PRIMARY KEY ], and whether it stands; where one came before, none may
 abbrev pub KeyMark : Bool → Bool → List Token → Type 0
@@ -164,3 +168,11 @@ pub data IsQuery : Query → List Token → Type 0 where
   select : (q : Query) (us : List Token) → Select q us → IsQuery q us
   update : (q : Query) (us : List Token) → Update q us → IsQuery q us
   delete : (q : Query) (us : List Token) → Delete q us → IsQuery q us
+
+-- the tokens of a text, up to its end, are a query
+pub record IsQueryOf (q : Query) (sql : List ℕ) : Type 0 where
+  pub tokens : List Token
+  pub rest : List Token
+  pub query : IsQuery q tokens
+  pub whole : tokens_of sql ≡ tokens ++ rest
+  pub ends : is_end (symbol_at rest) ≡ true
