@@ -6,6 +6,8 @@ use Rattle.hex.specs.Hex.{decode_of}
 use Rattle.keeper_dialect.specs.declared.tokens.Keyword.{Keyword}
 use Rattle.keeper_dialect.specs.declared.tokens.Keyword.TheVariants as keyword
 use Rattle.keeper_dialect.specs.declared.tokens.Symbol.TheVariants as symbol
+use Rattle.keeper_dialect.specs.declared.query.DialectFail.{DialectFail}
+use Rattle.keeper_dialect.specs.declared.query.DialectFail.TheVariants as fail
 use Rattle.keeper_dialect.specs.declared.query.Term.{Term}
 use Rattle.keeper_dialect.specs.declared.query.Term.TheVariants as term
 use Rattle.keeper_dialect.specs.declared.query.Add.{Add}
@@ -20,7 +22,7 @@ use Rattle.keeper_dialect.specs.declared.query.Query.TheVariants as query
 use Rattle.keeper_dialect.specs.Tokens.{Token, tokens_of}
 use Rattle.keeper_dialect.specs.Reading.{symbol_at, is_keyword, is_sign}
 use Rattle.keeper_dialect.specs.Terms.{name_of, signed, unquoted, without_quotes, operator_of}
-use Rattle.keeper_dialect.specs.Query.{is_end}
+use Rattle.keeper_dialect.specs.Query.{is_end, query_of}
 use Rattle.keeper_dialect.specs.Lists.{is_among, is_set, is_col, has_key, is_plain_word, most_cols, source_text}
 
 -- a value that takes no token
@@ -176,3 +178,17 @@ pub record IsQueryOf (q : Query) (sql : List ℕ) : Type 0 where
   pub query : IsQuery q tokens
   pub whole : tokens_of sql ≡ tokens ++ rest
   pub ends : is_end (symbol_at rest) ≡ true
+
+-- no text is two queries
+abbrev pub NoTextIsTwoQueries : Type 0
+NoTextIsTwoQueries = (sql : List ℕ) (p q : Query) → IsQueryOf p sql → IsQueryOf q sql → p ≡ q
+
+-- what `query_of` says of a text is its query exactly where it has one
+pub record QueriesAreRead : Type 0 where
+  pub sound : (sql : List ℕ) (q : Query) → query_of sql ≡ Ok q → IsQueryOf q sql
+  pub complete : (sql : List ℕ) (q : Query) → IsQueryOf q sql → query_of sql ≡ Ok q
+
+-- no query is that of a text that is refused, unless for want of memory
+abbrev pub RefusesRightly : List ℕ → DialectFail → Type 0
+RefusesRightly sql (fail.Syntax at) = (q : Query) → ¬ IsQueryOf q sql
+RefusesRightly sql fail.NoMemory = Unit {0}
