@@ -1,7 +1,7 @@
 -- The lists of the dialect are read exactly.
-use Rattle.std.proofs.Common.{◌≡◌, ◌≤◌, ◌<◌, ◌+◌, ◌-◌, ℕ, zero, suc, Bool, true, false, cond, eqb-true, List, [], ◌∷◌, ◌++◌, length, take, drop, Option, Some, None, Ok, Err, refl, sym, ap, ◌∙◌, subst, arith, append_assoc}
-use Rattle.std.specs.Prelude.{◌==◌, ◌&&◌, ◌||◌, not, nat_lt}
-use Rattle.std.proofs.lemmas.List.{length-append, take-append-le}
+use Rattle.std.proofs.Common.{◌≡◌, ◌-◌, ℕ, Bool, true, false, cond, List, [], ◌∷◌, ◌++◌, length, take, drop, Ok, Err, refl, sym, ap, ◌∙◌, subst, arith}
+use Rattle.std.specs.Prelude.{◌&&◌, not, nat_lt}
+use Rattle.std.proofs.lemmas.List.{length-append}
 use Rattle.keeper_dialect.specs.declared.tokens.Keyword.{Keyword}
 use Rattle.keeper_dialect.specs.declared.tokens.Keyword.TheVariants as keyword
 use Rattle.keeper_dialect.specs.declared.tokens.Symbol.{Symbol}
@@ -11,15 +11,15 @@ use Rattle.keeper_dialect.specs.declared.query.ColDef.{ColDef}
 use Rattle.keeper_dialect.specs.declared.query.ColExpr.{ColExpr}
 use Rattle.keeper_dialect.specs.declared.query.Item.{Item}
 use Rattle.keeper_dialect.specs.Tokens.{Token}
-use Rattle.keeper_dialect.specs.Reading.{Reading, and_then, separated, symbol_at, place_at, rank_of, is_keyword, is_sign, keyword_at, sign_at}
+use Rattle.keeper_dialect.specs.Reading.{Reading, and_then, symbol_at, place_at, is_keyword, is_sign, keyword_at, sign_at}
 use Rattle.keeper_dialect.specs.Terms.{expr_at, name_at, col_expr_at}
 use Rattle.keeper_dialect.specs.Lists.{is_among, is_set, is_col, has_key, new_name_at, name_list_at, names_at, exprs_at, tuple_at, tuples_at, set_at, sets_at, source_text, front, item_at, items_at, is_plain_word, after_type, key_at, col_name_at, col_def_at, cols_at, col_defs_at, most_cols}
 use Rattle.keeper_dialect.specs.Grammar.{Is, here, Then, both, Either, first, second, Single, one, standing, Keyed, Signed, Name, IsExpr, Unless, unless, Separated, Bracketed, NewName, Equation, IsItem, item, Nothing, TypeName, KeyMark, IsColDef, Names, Tuple}
-use Rattle.keeper_dialect.proofs.ReadingLemmas.{Within, then_ok, same_rest}
+use Rattle.keeper_dialect.proofs.ReadingLemmas.{then_ok, same_rest}
 use Rattle.keeper_dialect.proofs.Shorter.{expr_within, new_name_within, tuple_within, set_within, item_within, col_def_within}
-use Rattle.keeper_dialect.proofs.Exact.{Front, Exact, any, split, same_value, exact_is, exact_then, exact_next, exact_one, exact_same, exact_less, exact_either, exact_unless}
+use Rattle.keeper_dialect.proofs.Exact.{Front, Exact, any, split, same_value, exact_is, exact_then, exact_next, exact_same, exact_less, exact_unless}
 use Rattle.keeper_dialect.proofs.ExactTerms.{exact_keyword, exact_sign, exact_name}
-use Rattle.keeper_dialect.proofs.ExactLists.{closes, closes_list, Parts, exact_expr, exact_separated, sign_is, found_some}
+use Rattle.keeper_dialect.proofs.ExactLists.{closes, closes_list, exact_expr, exact_separated, sign_is, found_some}
 
 -- a value that takes no token is followed by what follows all
 pub is_free : {A : Type 0} (z : A) (y : A) (f : Symbol → Bool) (vs rest : List Token) → Is z y vs → f (symbol_at rest) ≡ true → f (symbol_at (vs ++ rest)) ≡ true
@@ -81,29 +81,31 @@ front_is us rest =
     let size : length (us ++ rest) - length rest ≡ length us = omega (arith, length-append us rest) in
     ap (λ n. take n (us ++ rest)) size ∙ take_front us rest
   where
-  take_front : (vs ws : List Token) → take (length vs) (vs ++ ws) ≡ vs
-  take_front [] ws = refl
-  take_front (v ∷ vs) ws = ap (λ us. v ∷ us) (take_front vs ws)
+    take_front : (vs ws : List Token) → take (length vs) (vs ++ ws) ≡ vs
+    take_front [] ws = refl
+    take_front (v ∷ vs) ws = ap (λ us. v ∷ us) (take_front vs ws)
 
 exact_item : Exact IsItem closes item_at
 unfolding item_at
 exact_item = record { sound = sound; complete = complete }
   where
-  made : List Token → Expr → List Token → Reading Item
-  made ts e rest = Ok (record { text = source_text (front ts rest); expr = e }, rest)
-  sound : (ts : List Token) (x : Item) (rest : List Token) → and_then (expr_at ts) (made ts) ≡ Ok (x, rest) → Front IsItem x ts rest
-  sound ts x rest is =
-      let s = split (expr_at ts) (made ts) x rest is in
-      let f = exact_expr.sound ts s.x s.mid s.before in
-      let left = same_rest (record { text = source_text (front ts s.mid); expr = s.x }) x s.mid rest _ refl s.behind in
-      let text_is : front ts s.mid ≡ f.front = ap (λ us. front us s.mid) f.whole ∙ front_is f.front s.mid in
-      let value = same_value (record { text = source_text (front ts s.mid); expr = s.x }) x s.mid rest _ refl s.behind in
-      subst (λ y. Front IsItem y ts rest) value (record { front = f.front; is = subst (λ us. IsItem (record { text = source_text us; expr = s.x }) f.front) (sym text_is) (item s.x f.front f.is); whole = f.whole ∙ ap (λ us. f.front ++ us) left })
-  complete : (x : Item) (us rest : List Token) → IsItem x us → closes (symbol_at rest) ≡ true → and_then (expr_at (us ++ rest)) (made (us ++ rest)) ≡ Ok (x, rest)
-  complete x us rest (item e vs p) follows = then_ok (expr_at (vs ++ rest)) (made (vs ++ rest)) e rest (exact_expr.complete e vs rest p follows) ∙ ap (λ ws. made_of e ws rest) (front_is vs rest)
-    where
-    made_of : Expr → List Token → List Token → Reading Item
-    made_of e ws rest = Ok (record { text = source_text ws; expr = e }, rest)
+    made : List Token → Expr → List Token → Reading Item
+    made ts e rest = Ok (record { text = source_text (front ts rest); expr = e }, rest)
+
+    sound : (ts : List Token) (x : Item) (rest : List Token) → and_then (expr_at ts) (made ts) ≡ Ok (x, rest) → Front IsItem x ts rest
+    sound ts x rest is =
+        let s = split (expr_at ts) (made ts) x rest is in
+        let f = exact_expr.sound ts s.x s.mid s.before in
+        let left = same_rest (record { text = source_text (front ts s.mid); expr = s.x }) x s.mid rest _ refl s.behind in
+        let text_is : front ts s.mid ≡ f.front = ap (λ us. front us s.mid) f.whole ∙ front_is f.front s.mid in
+        let value = same_value (record { text = source_text (front ts s.mid); expr = s.x }) x s.mid rest _ refl s.behind in
+        subst (λ y. Front IsItem y ts rest) value (record { front = f.front; is = subst (λ us. IsItem (record { text = source_text us; expr = s.x }) f.front) (sym text_is) (item s.x f.front f.is); whole = f.whole ∙ ap (λ us. f.front ++ us) left })
+
+    complete : (x : Item) (us rest : List Token) → IsItem x us → closes (symbol_at rest) ≡ true → and_then (expr_at (us ++ rest)) (made (us ++ rest)) ≡ Ok (x, rest)
+    complete x us rest (item e vs p) follows = then_ok (expr_at (vs ++ rest)) (made (vs ++ rest)) e rest (exact_expr.complete e vs rest p follows) ∙ ap (λ ws. made_of e ws rest) (front_is vs rest)
+      where
+        made_of : Expr → List Token → List Token → Reading Item
+        made_of e ws rest = Ok (record { text = source_text ws; expr = e }, rest)
 
 pub exact_items : Exact (Separated (λ done. IsItem)) closes_list items_at
 unfolding items_at
@@ -173,12 +175,13 @@ led_complete test Q f at exact x us rest (both u y ws vs (one t v is) q) follows
 pub exact_perhaps : {A : Type 0} (test : Symbol → Bool) (Q R : A → List Token → Type 0) (f : Symbol → Bool) (at bt : List Token → Reading A) → test symbol.End ≡ false → Exact Q f at → Exact R f bt → ((x : A) (us rest : List Token) → R x us → f (symbol_at rest) ≡ true → test (symbol_at (us ++ rest)) ≡ false) → Exact (Either (Led test Q) R) f (λ ts. cond (test (symbol_at ts)) (at (drop 1 ts)) (bt ts))
 exact_perhaps {A = A} test Q R f at bt ended exact other differs = record { sound = λ ts x rest is. sound (test (symbol_at ts)) ts x rest refl is; complete = complete }
   where
-  sound : (b : Bool) (ts : List Token) (x : A) (rest : List Token) → test (symbol_at ts) ≡ b → cond b (at (drop 1 ts)) (bt ts) ≡ Ok (x, rest) → Front (Either (Led test Q) R) x ts rest
-  sound true ts x rest tested is = let f = led_sound test Q f at ended exact ts x rest tested is in record { front = f.front; is = first x f.front f.is; whole = f.whole }
-  sound false ts x rest tested is = let f = other.sound ts x rest is in record { front = f.front; is = second x f.front f.is; whole = f.whole }
-  complete : (x : A) (us rest : List Token) → Either (Led test Q) R x us → f (symbol_at rest) ≡ true → cond (test (symbol_at (us ++ rest))) (at (drop 1 (us ++ rest))) (bt (us ++ rest)) ≡ Ok (x, rest)
-  complete x us rest (first y vs p) follows = let by = led_complete test Q f at exact x vs rest p follows in ap (λ b. cond b (at (drop 1 (vs ++ rest))) (bt (vs ++ rest))) by.tested ∙ by.read
-  complete x us rest (second y vs q) follows = ap (λ b. cond b (at (drop 1 (vs ++ rest))) (bt (vs ++ rest))) (differs x vs rest q follows) ∙ other.complete x vs rest q follows
+    sound : (b : Bool) (ts : List Token) (x : A) (rest : List Token) → test (symbol_at ts) ≡ b → cond b (at (drop 1 ts)) (bt ts) ≡ Ok (x, rest) → Front (Either (Led test Q) R) x ts rest
+    sound true ts x rest tested is = let f = led_sound test Q f at ended exact ts x rest tested is in record { front = f.front; is = first x f.front f.is; whole = f.whole }
+    sound false ts x rest tested is = let f = other.sound ts x rest is in record { front = f.front; is = second x f.front f.is; whole = f.whole }
+
+    complete : (x : A) (us rest : List Token) → Either (Led test Q) R x us → f (symbol_at rest) ≡ true → cond (test (symbol_at (us ++ rest))) (at (drop 1 (us ++ rest))) (bt (us ++ rest)) ≡ Ok (x, rest)
+    complete x us rest (first y vs p) follows = let by = led_complete test Q f at exact x vs rest p follows in ap (λ b. cond b (at (drop 1 (vs ++ rest))) (bt (vs ++ rest))) by.tested ∙ by.read
+    complete x us rest (second y vs q) follows = ap (λ b. cond b (at (drop 1 (vs ++ rest))) (bt (vs ++ rest))) (differs x vs rest q follows) ∙ other.complete x vs rest q follows
 
 not_true : (b : Bool) → not b ≡ true → b ≡ false
 not_true true wrong = cc wrong
@@ -191,8 +194,8 @@ exact_type : Exact TypeName no_word type_at
 unfolding type_at no_word
 exact_type = exact_perhaps is_plain_word Nothing Nothing no_word (λ ts. Ok (tt, ts)) (λ ts. Ok (tt, ts)) refl (exact_is tt no_word) (exact_is tt no_word) differs
   where
-  differs : (x : Unit {0}) (us rest : List Token) → Nothing x us → no_word (symbol_at rest) ≡ true → is_plain_word (symbol_at (us ++ rest)) ≡ false
-  differs x us rest here follows = not_true (is_plain_word (symbol_at rest)) follows
+    differs : (x : Unit {0}) (us rest : List Token) → Nothing x us → no_word (symbol_at rest) ≡ true → is_plain_word (symbol_at (us ++ rest)) ≡ false
+    differs x us rest here follows = not_true (is_plain_word (symbol_at rest)) follows
 
 key_word_at : List Token → Reading Bool
 key_word_at ts = and_then (keyword_at keyword.Key ts) (λ _ rest. Ok (true, rest))
@@ -204,8 +207,8 @@ exact_key_words : Exact KeyWords closes (λ ts. cond (is_keyword keyword.Primary
 unfolding key_word_at
 exact_key_words = exact_perhaps (is_keyword keyword.Primary) (Then (Keyed keyword.Key) (λ _. Is true)) (Is false) closes key_word_at (λ ts. Ok (false, ts)) refl (exact_next (Keyed keyword.Key) (λ _. Is true) closes (keyword_at keyword.Key) (λ _ rest. Ok (true, rest)) (exact_keyword keyword.Key) (λ _. exact_is true closes)) (exact_is false closes) differs
   where
-  differs : (x : Bool) (us rest : List Token) → Is false x us → closes (symbol_at rest) ≡ true → is_keyword keyword.Primary (symbol_at (us ++ rest)) ≡ false
-  differs x us rest here follows = closes_primary (symbol_at rest) follows
+    differs : (x : Bool) (us rest : List Token) → Is false x us → closes (symbol_at rest) ≡ true → is_keyword keyword.Primary (symbol_at (us ++ rest)) ≡ false
+    differs x us rest here follows = closes_primary (symbol_at rest) follows
 
 and_false : (b : Bool) → (b && false) ≡ false
 and_false true = refl
@@ -215,20 +218,23 @@ exact_key : (had : Bool) → Exact (KeyMark had) closes (key_at had)
 unfolding key_at key_word_at
 exact_key false = record { sound = sound; complete = complete }
   where
-  sound : (ts : List Token) (x : Bool) (rest : List Token) → cond (is_keyword keyword.Primary (symbol_at ts)) (key_word_at (drop 1 ts)) (Ok (false, ts)) ≡ Ok (x, rest) → Front (KeyMark false) x ts rest
-  sound ts x rest is = let f = exact_key_words.sound ts x rest is in record { front = f.front; is = unless x f.front f.is (and_false x); whole = f.whole }
-  complete : (x : Bool) (us rest : List Token) → KeyMark false x us → closes (symbol_at rest) ≡ true → cond (is_keyword keyword.Primary (symbol_at (us ++ rest))) (key_word_at (drop 1 (us ++ rest))) (Ok (false, us ++ rest)) ≡ Ok (x, rest)
-  complete x us rest (unless y vs p fine) follows = exact_key_words.complete x vs rest p follows
+    sound : (ts : List Token) (x : Bool) (rest : List Token) → cond (is_keyword keyword.Primary (symbol_at ts)) (key_word_at (drop 1 ts)) (Ok (false, ts)) ≡ Ok (x, rest) → Front (KeyMark false) x ts rest
+    sound ts x rest is = let f = exact_key_words.sound ts x rest is in record { front = f.front; is = unless x f.front f.is (and_false x); whole = f.whole }
+
+    complete : (x : Bool) (us rest : List Token) → KeyMark false x us → closes (symbol_at rest) ≡ true → cond (is_keyword keyword.Primary (symbol_at (us ++ rest))) (key_word_at (drop 1 (us ++ rest))) (Ok (false, us ++ rest)) ≡ Ok (x, rest)
+    complete x us rest (unless y vs p fine) follows = exact_key_words.complete x vs rest p follows
 exact_key true = record { sound = λ ts x rest is. sound (is_keyword keyword.Primary (symbol_at ts)) ts x rest is; complete = complete }
   where
-  marked : Bool → List Token → Reading Bool
-  marked b ts = cond b (Err (place_at ts)) (Ok (false, ts))
-  sound : (b : Bool) (ts : List Token) (x : Bool) (rest : List Token) → marked b ts ≡ Ok (x, rest) → Front (KeyMark true) x ts rest
-  sound true ts x rest is = cc is
-  sound false ts x rest is = subst (λ z. Front (KeyMark true) z ts rest) (same_value false x ts rest _ refl is) (record { front = []; is = unless false [] (second false [] here) refl; whole = same_rest false x ts rest _ refl is })
-  complete : (x : Bool) (us rest : List Token) → KeyMark true x us → closes (symbol_at rest) ≡ true → marked (is_keyword keyword.Primary (symbol_at (us ++ rest))) (us ++ rest) ≡ Ok (x, rest)
-  complete x us rest (unless y vs (second z ws here) fine) follows = ap (λ b. marked b rest) (closes_primary (symbol_at rest) follows)
-  complete x us rest (unless y vs (first z ws (both u w os ps p (both v k qs rs q here))) wrong) follows = cc wrong
+    marked : Bool → List Token → Reading Bool
+    marked b ts = cond b (Err (place_at ts)) (Ok (false, ts))
+
+    sound : (b : Bool) (ts : List Token) (x : Bool) (rest : List Token) → marked b ts ≡ Ok (x, rest) → Front (KeyMark true) x ts rest
+    sound true ts x rest is = cc is
+    sound false ts x rest is = subst (λ z. Front (KeyMark true) z ts rest) (same_value false x ts rest _ refl is) (record { front = []; is = unless false [] (second false [] here) refl; whole = same_rest false x ts rest _ refl is })
+
+    complete : (x : Bool) (us rest : List Token) → KeyMark true x us → closes (symbol_at rest) ≡ true → marked (is_keyword keyword.Primary (symbol_at (us ++ rest))) (us ++ rest) ≡ Ok (x, rest)
+    complete x us rest (unless y vs (second z ws here) fine) follows = ap (λ b. marked b rest) (closes_primary (symbol_at rest) follows)
+    complete x us rest (unless y vs (first z ws (both u w os ps p (both v k qs rs q here))) wrong) follows = cc wrong
 
 abbrev ColName : List ColDef → List ℕ → List Token → Type 0
 ColName done = Unless (λ name. not (nat_lt (length done) most_cols)) (NewName (is_col done))
@@ -237,14 +243,16 @@ exact_col_name : (done : List ColDef) → Exact (ColName done) any (col_name_at 
 unfolding col_name_at
 exact_col_name done = record { sound = λ ts x rest is. sound (nat_lt (length done) most_cols) ts x rest refl is; complete = complete }
   where
-  sound : (b : Bool) (ts : List Token) (x : List ℕ) (rest : List Token) → nat_lt (length done) most_cols ≡ b → cond b (new_name_at (is_col done) ts) (Err (place_at ts)) ≡ Ok (x, rest) → Front (ColName done) x ts rest
-  sound true ts x rest few is = let f = (exact_new_name (is_col done)).sound ts x rest is in record { front = f.front; is = unless x f.front f.is (ap not few); whole = f.whole }
-  sound false ts x rest few is = cc is
-  few_of : (b : Bool) → not b ≡ false → b ≡ true
-  few_of true right = refl
-  few_of false wrong = cc wrong
-  complete : (x : List ℕ) (us rest : List Token) → ColName done x us → true ≡ true → cond (nat_lt (length done) most_cols) (new_name_at (is_col done) (us ++ rest)) (Err (place_at (us ++ rest))) ≡ Ok (x, rest)
-  complete x us rest (unless y vs p few) follows = ap (λ b. cond b (new_name_at (is_col done) (vs ++ rest)) (Err (place_at (vs ++ rest)))) (few_of (nat_lt (length done) most_cols) few) ∙ (exact_new_name (is_col done)).complete x vs rest p refl
+    sound : (b : Bool) (ts : List Token) (x : List ℕ) (rest : List Token) → nat_lt (length done) most_cols ≡ b → cond b (new_name_at (is_col done) ts) (Err (place_at ts)) ≡ Ok (x, rest) → Front (ColName done) x ts rest
+    sound true ts x rest few is = let f = (exact_new_name (is_col done)).sound ts x rest is in record { front = f.front; is = unless x f.front f.is (ap not few); whole = f.whole }
+    sound false ts x rest few is = cc is
+
+    few_of : (b : Bool) → not b ≡ false → b ≡ true
+    few_of true right = refl
+    few_of false wrong = cc wrong
+
+    complete : (x : List ℕ) (us rest : List Token) → ColName done x us → true ≡ true → cond (nat_lt (length done) most_cols) (new_name_at (is_col done) (us ++ rest)) (Err (place_at (us ++ rest))) ≡ Ok (x, rest)
+    complete x us rest (unless y vs p few) follows = ap (λ b. cond b (new_name_at (is_col done) (vs ++ rest)) (Err (place_at (vs ++ rest)))) (few_of (nat_lt (length done) most_cols) few) ∙ (exact_new_name (is_col done)).complete x vs rest p refl
 
 col_rest : List ColDef → List ℕ → List Token → Reading ColDef
 col_rest done name after = and_then (key_at (has_key done) (after_type (symbol_at after) after)) (λ key rest. Ok (record { name = name; key = key }, rest))
@@ -256,13 +264,15 @@ same_typed : (done : List ColDef) (name : List ℕ) (ts : List Token) → col_re
 unfolding col_rest typed_rest type_at and_then
 same_typed done name ts = by_word (is_plain_word (symbol_at ts))
   where
-  made : Bool → List Token → Reading ColDef
-  made key rest = Ok (record { name = name; key = key }, rest)
-  typed : Bool → Reading (Unit {0})
-  typed b = cond b (Ok (tt, drop 1 ts)) (Ok (tt, ts))
-  by_word : (b : Bool) → and_then (key_at (has_key done) (cond b (drop 1 ts) ts)) made ≡ and_then (typed b) (λ _ mid. and_then (key_at (has_key done) mid) made)
-  by_word true = refl
-  by_word false = refl
+    made : Bool → List Token → Reading ColDef
+    made key rest = Ok (record { name = name; key = key }, rest)
+
+    typed : Bool → Reading (Unit {0})
+    typed b = cond b (Ok (tt, drop 1 ts)) (Ok (tt, ts))
+
+    by_word : (b : Bool) → and_then (key_at (has_key done) (cond b (drop 1 ts) ts)) made ≡ and_then (typed b) (λ _ mid. and_then (key_at (has_key done) mid) made)
+    by_word true = refl
+    by_word false = refl
 
 closes_no_word : (s : Symbol) → closes s ≡ true → no_word s ≡ true
 unfolding no_word

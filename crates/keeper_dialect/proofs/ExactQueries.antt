@@ -1,6 +1,6 @@
 -- Queries are read exactly.
-use Rattle.std.proofs.Common.{◌≡◌, ℕ, Bool, true, false, cond, eqb-true, List, [], ◌∷◌, ◌++◌, drop, Option, Some, None, Ok, Err, refl, sym, ap, ◌∙◌, subst, append_assoc}
-use Rattle.std.specs.Prelude.{Result, ◌==◌, ◌&&◌, ◌||◌, not}
+use Rattle.std.proofs.Common.{◌≡◌, ℕ, Bool, true, false, cond, eqb-true, List, [], ◌++◌, drop, Option, Some, None, Ok, Err, refl, sym, ap, ◌∙◌, subst, append_assoc}
+use Rattle.std.specs.Prelude.{Result, ◌==◌}
 use Rattle.keeper_dialect.specs.declared.tokens.Keyword.{Keyword}
 use Rattle.keeper_dialect.specs.declared.tokens.Keyword.TheVariants as keyword
 use Rattle.keeper_dialect.specs.declared.tokens.Symbol.{Symbol}
@@ -18,11 +18,11 @@ use Rattle.keeper_dialect.specs.Reading.{Reading, and_then, symbol_at, place_at,
 use Rattle.keeper_dialect.specs.Terms.{name_of, name_at, col_expr_at}
 use Rattle.keeper_dialect.specs.Lists.{source_text, front, names_at, tuples_at, sets_at, items_at, col_defs_at, is_set}
 use Rattle.keeper_dialect.specs.Query.{filter_at, create_at, some_names_at, insert_at, from_at, count_at, list_at, select_at, update_at, delete_at, statement_by, statement_of, statement_at, is_end, whole_at, answer_of, query_of}
-use Rattle.keeper_dialect.specs.Grammar.{Is, here, Then, both, Either, first, second, Repeated, Single, one, standing, Keyed, Signed, Name, IsTerm, number, negative, text, blob, null, parameter, name, IsExpr, Separated, Bracketed, NewName, Equation, IsItem, item, Names, Tuple, Filter, Counted, counted, From, Create, Insert, Select, Update, Delete, IsQuery, create, insert, select, update, delete, IsQueryOf, IsColDef}
+use Rattle.keeper_dialect.specs.Grammar.{Is, here, Then, both, Either, first, second, one, Keyed, Signed, Name, IsTerm, number, negative, text, blob, null, parameter, name, IsExpr, Separated, Bracketed, NewName, Equation, IsItem, item, Names, Tuple, Filter, Counted, counted, From, Create, Insert, Select, Update, Delete, IsQuery, create, insert, select, update, delete, IsQueryOf, IsColDef}
 use Rattle.keeper_dialect.proofs.ReadingLemmas.{then_ok, same_rest}
-use Rattle.keeper_dialect.proofs.Exact.{Front, Exact, any, split, same_value, exact_is, exact_then, exact_next, exact_same, exact_either}
+use Rattle.keeper_dialect.proofs.Exact.{Front, Exact, any, split, same_value, exact_is, exact_then, exact_next, exact_either}
 use Rattle.keeper_dialect.proofs.ExactTerms.{exact_keyword, exact_sign, exact_name}
-use Rattle.keeper_dialect.proofs.ExactLists.{closes, closes_list, sign_is, found_some}
+use Rattle.keeper_dialect.proofs.ExactLists.{closes, closes_list, found_some}
 use Rattle.keeper_dialect.proofs.ExactParts.{is_free, front_is, exact_brackets, exact_names, exact_tuples, exact_sets, exact_items, exact_col_expr, exact_col_defs, Led, led_sound, led_complete, exact_perhaps}
 
 end_closes : (s : Symbol) → is_end s ≡ true → closes s ≡ true
@@ -82,8 +82,8 @@ exact_filter : Exact Filter is_end filter_at
 unfolding filter_at filter_rest_at
 exact_filter = exact_perhaps (is_keyword keyword.Where) FilterRest (Is None) is_end filter_rest_at (λ ts. Ok (None, ts)) refl exact_filter_rest (exact_is None is_end) differs
   where
-  differs : (x : Option ColExpr) (us rest : List Token) → Is None x us → is_end (symbol_at rest) ≡ true → is_keyword keyword.Where (symbol_at (us ++ rest)) ≡ false
-  differs x us rest here follows = end_differs keyword.Where (symbol_at rest) follows
+    differs : (x : Option ColExpr) (us rest : List Token) → Is None x us → is_end (symbol_at rest) ≡ true → is_keyword keyword.Where (symbol_at (us ++ rest)) ≡ false
+    differs x us rest here follows = end_differs keyword.Where (symbol_at rest) follows
 
 -- the end follows a filter and what is made of it
 filtered : {A : Type 0} (z : A) (y : A) (vs rest : List Token) → Is z y vs → is_end (symbol_at rest) ≡ true → is_end (symbol_at (vs ++ rest)) ≡ true
@@ -131,10 +131,11 @@ exact_some_names : Exact SomeNames values_next some_names_at
 unfolding some_names_at named_at SomeNames
 exact_some_names = exact_either (Then Names (λ names. Is (Some names))) (Is None) values_next (is_sign 40) named_at (λ ts. Ok (None, ts)) (exact_next Names (λ names. Is (Some names)) values_next names_at (λ names rest. Ok (Some names, rest)) exact_names (λ names. exact_is (Some names) values_next)) (exact_is None values_next) starts differs
   where
-  starts : (x : Option (List (List ℕ))) (us rest : List Token) → Then Names (λ names. Is (Some names)) x us → is_sign 40 (symbol_at (us ++ rest)) ≡ true
-  starts x us rest (both names y vs ws (both u z os ps (one t v is) q) r) = found_some (is_sign 40 t.symbol) v is
-  differs : (x : Option (List (List ℕ))) (us rest : List Token) → Is None x us → values_next (symbol_at rest) ≡ true → is_sign 40 (symbol_at (us ++ rest)) ≡ false
-  differs x us rest here follows = no_bracket (symbol_at rest) follows
+    starts : (x : Option (List (List ℕ))) (us rest : List Token) → Then Names (λ names. Is (Some names)) x us → is_sign 40 (symbol_at (us ++ rest)) ≡ true
+    starts x us rest (both names y vs ws (both u z os ps (one t v is) q) r) = found_some (is_sign 40 t.symbol) v is
+
+    differs : (x : Option (List (List ℕ))) (us rest : List Token) → Is None x us → values_next (symbol_at rest) ≡ true → is_sign 40 (symbol_at (us ++ rest)) ≡ false
+    differs x us rest here follows = no_bracket (symbol_at rest) follows
 
 abbrev InsertValues : List ℕ → Option (List (List ℕ)) → Query → List Token → Type 0
 InsertValues table names = Then (Keyed keyword.Values) (λ _. Then (Separated (λ done. Tuple)) (λ tuples. Is (query.Insert table names tuples)))
@@ -155,40 +156,41 @@ exact_insert =
     exact_then (Separated (λ done. Tuple)) (λ tuples. Is (query.Insert table names tuples)) closes_list is_end tuples_at (λ tuples rest. Ok (query.Insert table names tuples, rest)) exact_tuples (λ tuples. exact_is (query.Insert table names tuples) is_end) (λ tuples y vs rest q follows. end_closes_list (symbol_at (vs ++ rest)) (filtered (query.Insert table names tuples) y vs rest q follows))))
     (λ names y vs rest q follows. begins table names y vs rest q)))
   where
-  begins : (table : List ℕ) (names : Option (List (List ℕ))) (y : Query) (vs rest : List Token) → InsertValues table names y vs → values_next (symbol_at (vs ++ rest)) ≡ true
-  begins table names y vs rest (both u z os ps (one t v is) q) = found_some (is_keyword keyword.Values t.symbol) v is
+    begins : (table : List ℕ) (names : Option (List (List ℕ))) (y : Query) (vs rest : List Token) → InsertValues table names y vs → values_next (symbol_at (vs ++ rest)) ≡ true
+    begins table names y vs rest (both u z os ps (one t v is) q) = found_some (is_keyword keyword.Values t.symbol) v is
 
 -- what may follow a list: a filter, or the end
 filter_follows : (x : Option ColExpr) (us rest : List Token) → Filter x us → is_end (symbol_at rest) ≡ true → closes_list (symbol_at (us ++ rest)) ≡ true
 filter_follows x us rest (second y vs here) follows = end_closes_list (symbol_at rest) follows
 filter_follows x us rest (first y vs (both u z os ps (one t v is) q)) follows = where_closes t.symbol (found_some (is_keyword keyword.Where t.symbol) v is)
   where
-  by_rank : (j : Keyword) → is_keyword keyword.Where (symbol.Keyword j) ≡ true → closes_list (symbol.Keyword j) ≡ true
-  by_rank keyword.Count is = cc is
-  by_rank keyword.Create is = cc is
-  by_rank keyword.Delete is = cc is
-  by_rank keyword.From is = refl
-  by_rank keyword.Insert is = cc is
-  by_rank keyword.Into is = cc is
-  by_rank keyword.Key is = cc is
-  by_rank keyword.Null is = cc is
-  by_rank keyword.Primary is = cc is
-  by_rank keyword.Select is = cc is
-  by_rank keyword.Set is = cc is
-  by_rank keyword.Table is = cc is
-  by_rank keyword.Update is = cc is
-  by_rank keyword.Values is = cc is
-  by_rank keyword.Where is = refl
-  where_closes : (s : Symbol) → is_keyword keyword.Where s ≡ true → closes_list s ≡ true
-  where_closes (symbol.Keyword j) is = by_rank j is
-  where_closes symbol.Word is = cc is
-  where_closes symbol.QuotedName is = cc is
-  where_closes symbol.Text is = cc is
-  where_closes symbol.Number is = cc is
-  where_closes (symbol.Parameter n) is = cc is
-  where_closes (symbol.Sign b) is = cc is
-  where_closes symbol.Stray is = cc is
-  where_closes symbol.End is = cc is
+    by_rank : (j : Keyword) → is_keyword keyword.Where (symbol.Keyword j) ≡ true → closes_list (symbol.Keyword j) ≡ true
+    by_rank keyword.Count is = cc is
+    by_rank keyword.Create is = cc is
+    by_rank keyword.Delete is = cc is
+    by_rank keyword.From is = refl
+    by_rank keyword.Insert is = cc is
+    by_rank keyword.Into is = cc is
+    by_rank keyword.Key is = cc is
+    by_rank keyword.Null is = cc is
+    by_rank keyword.Primary is = cc is
+    by_rank keyword.Select is = cc is
+    by_rank keyword.Set is = cc is
+    by_rank keyword.Table is = cc is
+    by_rank keyword.Update is = cc is
+    by_rank keyword.Values is = cc is
+    by_rank keyword.Where is = refl
+
+    where_closes : (s : Symbol) → is_keyword keyword.Where s ≡ true → closes_list s ≡ true
+    where_closes (symbol.Keyword j) is = by_rank j is
+    where_closes symbol.Word is = cc is
+    where_closes symbol.QuotedName is = cc is
+    where_closes symbol.Text is = cc is
+    where_closes symbol.Number is = cc is
+    where_closes (symbol.Parameter n) is = cc is
+    where_closes (symbol.Sign b) is = cc is
+    where_closes symbol.Stray is = cc is
+    where_closes symbol.End is = cc is
 
 abbrev UpdateRest : Query → List Token → Type 0
 UpdateRest = Then Name (λ table. Then (Keyed keyword.Set) (λ _. Then (Separated (λ done. Equation (NewName (is_set done)))) (λ sets. Then Filter (λ filter. Is (query.Update table sets filter)))))
@@ -202,8 +204,8 @@ exact_update =
     (λ sets. exact_then Filter (λ filter. Is (query.Update table sets filter)) is_end is_end filter_at (λ filter rest. Ok (query.Update table sets filter, rest)) exact_filter (λ filter. exact_is (query.Update table sets filter) is_end) (λ filter y vs rest q follows. filtered (query.Update table sets filter) y vs rest q follows))
     (λ sets y vs rest q follows. begins table sets y vs rest q follows)))
   where
-  begins : (table : List ℕ) (sets : List ColExpr) (y : Query) (vs rest : List Token) → Then Filter (λ filter. Is (query.Update table sets filter)) y vs → is_end (symbol_at rest) ≡ true → closes_list (symbol_at (vs ++ rest)) ≡ true
-  begins table sets y vs rest (both filter z us ws p here) follows = subst (λ ts. closes_list (symbol_at ts) ≡ true) (sym (append_assoc us [] rest)) (filter_follows filter us rest p follows)
+    begins : (table : List ℕ) (sets : List ColExpr) (y : Query) (vs rest : List Token) → Then Filter (λ filter. Is (query.Update table sets filter)) y vs → is_end (symbol_at rest) ≡ true → closes_list (symbol_at (vs ++ rest)) ≡ true
+    begins table sets y vs rest (both filter z us ws p here) follows = subst (λ ts. closes_list (symbol_at ts) ≡ true) (sym (append_assoc us [] rest)) (filter_follows filter us rest p follows)
 
 abbrev DeleteRest : Query → List Token → Type 0
 DeleteRest = Then (Keyed keyword.From) (λ _. Then Name (λ table. Then Filter (λ filter. Is (query.Delete table filter))))
@@ -245,9 +247,9 @@ count_last : (ts after : List Token) (x : Unit {0}) → and_then (sign_at 41 aft
 unfolding and_then
 count_last ts after x = by_reading (sign_at 41 after)
   where
-  by_reading : (r : Reading (Unit {0})) → and_then r (λ _ rest. count_made ts x rest) ≡ and_then (and_then r (λ _ rest. Ok (x, rest))) (count_made ts)
-  by_reading (Ok read) = refl
-  by_reading (Err at) = refl
+    by_reading : (r : Reading (Unit {0})) → and_then r (λ _ rest. count_made ts x rest) ≡ and_then (and_then r (λ _ rest. Ok (x, rest))) (count_made ts)
+    by_reading (Ok read) = refl
+    by_reading (Err at) = refl
 
 count_split : (ts : List Token) → count_at ts ≡ and_then (counted_at ts) (count_made ts)
 unfolding count_at counted_at brackets_at count_made
@@ -263,19 +265,20 @@ exact_count : Exact Counted any count_at
 unfolding count_made
 exact_count = record { sound = sound; complete = complete }
   where
-  sound : (ts : List Token) (x : Shown) (rest : List Token) → count_at ts ≡ Ok (x, rest) → Front Counted x ts rest
-  sound ts x rest is =
-      let s = split (counted_at ts) (count_made ts) x rest (sym (count_split ts) ∙ is) in
-      let f = exact_counted.sound ts s.x s.mid s.before in
-      let left = same_rest (shown.Count (source_text (front ts s.mid))) x s.mid rest _ refl s.behind in
-      let text_is : front ts s.mid ≡ f.front = ap (λ us. front us s.mid) f.whole ∙ front_is f.front s.mid in
-      let value = same_value (shown.Count (source_text (front ts s.mid))) x s.mid rest _ refl s.behind in
-      subst (λ y. Front Counted y ts rest) value (record { front = f.front; is = subst (λ us. Counted (shown.Count (source_text us)) f.front) (sym text_is) (counted f.front f.is); whole = f.whole ∙ ap (λ us. f.front ++ us) left })
-  complete : (x : Shown) (us rest : List Token) → Counted x us → true ≡ true → count_at (us ++ rest) ≡ Ok (x, rest)
-  complete x us rest (counted vs p) follows = count_split (vs ++ rest) ∙ then_ok (counted_at (vs ++ rest)) (count_made (vs ++ rest)) tt rest (exact_counted.complete tt vs rest p refl) ∙ ap (λ ws. made ws rest) (front_is vs rest)
-    where
-    made : List Token → List Token → Reading Shown
-    made ws rest = Ok (shown.Count (source_text ws), rest)
+    sound : (ts : List Token) (x : Shown) (rest : List Token) → count_at ts ≡ Ok (x, rest) → Front Counted x ts rest
+    sound ts x rest is =
+        let s = split (counted_at ts) (count_made ts) x rest (sym (count_split ts) ∙ is) in
+        let f = exact_counted.sound ts s.x s.mid s.before in
+        let left = same_rest (shown.Count (source_text (front ts s.mid))) x s.mid rest _ refl s.behind in
+        let text_is : front ts s.mid ≡ f.front = ap (λ us. front us s.mid) f.whole ∙ front_is f.front s.mid in
+        let value = same_value (shown.Count (source_text (front ts s.mid))) x s.mid rest _ refl s.behind in
+        subst (λ y. Front Counted y ts rest) value (record { front = f.front; is = subst (λ us. Counted (shown.Count (source_text us)) f.front) (sym text_is) (counted f.front f.is); whole = f.whole ∙ ap (λ us. f.front ++ us) left })
+
+    complete : (x : Shown) (us rest : List Token) → Counted x us → true ≡ true → count_at (us ++ rest) ≡ Ok (x, rest)
+    complete x us rest (counted vs p) follows = count_split (vs ++ rest) ∙ then_ok (counted_at (vs ++ rest)) (count_made (vs ++ rest)) tt rest (exact_counted.complete tt vs rest p refl) ∙ ap (λ ws. made ws rest) (front_is vs rest)
+      where
+        made : List Token → List Token → Reading Shown
+        made ws rest = Ok (shown.Count (source_text ws), rest)
 
 abbrev ListRest : List Item → Query → List Token → Type 0
 ListRest items = Either (From (shown.List items)) (Is (query.Select (shown.List items) None None))
@@ -293,28 +296,28 @@ exact_list_rest : (items : List Item) → Exact (ListRest items) is_end (list_re
 unfolding list_rest_at
 exact_list_rest items = exact_either (From (shown.List items)) (Is (query.Select (shown.List items) None None)) is_end (is_keyword keyword.From) (from_at (shown.List items)) (λ ts. Ok (query.Select (shown.List items) None None, ts)) (exact_from (shown.List items)) (exact_is (query.Select (shown.List items) None None) is_end) (λ x us rest p. from_starts (shown.List items) x us rest p) differs
   where
-  differs : (x : Query) (us rest : List Token) → Is (query.Select (shown.List items) None None) x us → is_end (symbol_at rest) ≡ true → is_keyword keyword.From (symbol_at (us ++ rest)) ≡ false
-  differs x us rest here follows = end_differs keyword.From (symbol_at rest) follows
+    differs : (x : Query) (us rest : List Token) → Is (query.Select (shown.List items) None None) x us → is_end (symbol_at rest) ≡ true → is_keyword keyword.From (symbol_at (us ++ rest)) ≡ false
+    differs x us rest here follows = end_differs keyword.From (symbol_at rest) follows
 
 from_closes : (s : Symbol) → is_keyword keyword.From s ≡ true → closes_list s ≡ true
 from_closes (symbol.Keyword j) is = by_rank j is
   where
-  by_rank : (j : Keyword) → is_keyword keyword.From (symbol.Keyword j) ≡ true → closes_list (symbol.Keyword j) ≡ true
-  by_rank keyword.Count is = cc is
-  by_rank keyword.Create is = cc is
-  by_rank keyword.Delete is = cc is
-  by_rank keyword.From is = refl
-  by_rank keyword.Insert is = cc is
-  by_rank keyword.Into is = cc is
-  by_rank keyword.Key is = cc is
-  by_rank keyword.Null is = cc is
-  by_rank keyword.Primary is = cc is
-  by_rank keyword.Select is = cc is
-  by_rank keyword.Set is = cc is
-  by_rank keyword.Table is = cc is
-  by_rank keyword.Update is = cc is
-  by_rank keyword.Values is = cc is
-  by_rank keyword.Where is = refl
+    by_rank : (j : Keyword) → is_keyword keyword.From (symbol.Keyword j) ≡ true → closes_list (symbol.Keyword j) ≡ true
+    by_rank keyword.Count is = cc is
+    by_rank keyword.Create is = cc is
+    by_rank keyword.Delete is = cc is
+    by_rank keyword.From is = refl
+    by_rank keyword.Insert is = cc is
+    by_rank keyword.Into is = cc is
+    by_rank keyword.Key is = cc is
+    by_rank keyword.Null is = cc is
+    by_rank keyword.Primary is = cc is
+    by_rank keyword.Select is = cc is
+    by_rank keyword.Set is = cc is
+    by_rank keyword.Table is = cc is
+    by_rank keyword.Update is = cc is
+    by_rank keyword.Values is = cc is
+    by_rank keyword.Where is = refl
 from_closes symbol.Word is = cc is
 from_closes symbol.QuotedName is = cc is
 from_closes symbol.Text is = cc is
@@ -328,9 +331,9 @@ exact_listed : Exact Listed is_end list_at
 unfolding list_at list_rest_at
 exact_listed = exact_then (Separated (λ done. IsItem)) (λ items. ListRest items) closes_list is_end items_at (λ items rest. list_rest_at items rest) exact_items exact_list_rest (λ items y vs rest q follows. begins items y vs rest q follows)
   where
-  begins : (items : List Item) (y : Query) (vs rest : List Token) → ListRest items y vs → is_end (symbol_at rest) ≡ true → closes_list (symbol_at (vs ++ rest)) ≡ true
-  begins items y vs rest (first z us p) follows = from_closes (symbol_at (us ++ rest)) (from_starts (shown.List items) y us rest p)
-  begins items y vs rest (second z us here) follows = end_closes_list (symbol_at rest) follows
+    begins : (items : List Item) (y : Query) (vs rest : List Token) → ListRest items y vs → is_end (symbol_at rest) ≡ true → closes_list (symbol_at (vs ++ rest)) ≡ true
+    begins items y vs rest (first z us p) follows = from_closes (symbol_at (us ++ rest)) (from_starts (shown.List items) y us rest p)
+    begins items y vs rest (second z us here) follows = end_closes_list (symbol_at rest) follows
 
 -- no term begins with `*` or `COUNT`
 record Plain (s : Symbol) : Type 0 where
@@ -401,9 +404,9 @@ exact_select : Exact SelectRest is_end select_at
 unfolding select_at count_or_list_at
 exact_select = exact_perhaps (is_sign 42) (From shown.All) CountOrList is_end (from_at shown.All) count_or_list_at refl (exact_from shown.All) exact_count_or_list differs
   where
-  differs : (x : Query) (us rest : List Token) → CountOrList x us → is_end (symbol_at rest) ≡ true → is_sign 42 (symbol_at (us ++ rest)) ≡ false
-  differs x us rest (first y vs p) follows = keyword_no_star keyword.Count (symbol_at (vs ++ rest)) (count_starts x vs rest p)
-  differs x us rest (second y vs q) follows = (listed_plain x vs rest q).no_star
+    differs : (x : Query) (us rest : List Token) → CountOrList x us → is_end (symbol_at rest) ≡ true → is_sign 42 (symbol_at (us ++ rest)) ≡ false
+    differs x us rest (first y vs p) follows = keyword_no_star keyword.Count (symbol_at (vs ++ rest)) (count_starts x vs rest p)
+    differs x us rest (second y vs q) follows = (listed_plain x vs rest q).no_star
 
 -- the word of a rank
 ranked : ℕ → Keyword
@@ -434,8 +437,8 @@ ranked-rank keyword.Where = refl
 same_keyword : (k : Keyword) (s : Symbol) → is_keyword k s ≡ true → s ≡ symbol.Keyword k
 same_keyword k s is = by_one (is_one_of k s is)
   where
-  by_one : IsOne k s → s ≡ symbol.Keyword k
-  by_one (is_one j at ranks) = at ∙ ap (λ w. symbol.Keyword w) (sym (ranked-rank j) ∙ ap ranked (eqb-true (rank_of j) (rank_of k) ranks) ∙ ranked-rank k)
+    by_one : IsOne k s → s ≡ symbol.Keyword k
+    by_one (is_one j at ranks) = at ∙ ap (λ w. symbol.Keyword w) (sym (ranked-rank j) ∙ ap ranked (eqb-true (rank_of j) (rank_of k) ranks) ∙ ranked-rank k)
 
 statement_at-is : (k : Keyword) (ts : List Token) → symbol_at ts ≡ symbol.Keyword k → statement_at ts ≡ statement_by k ts
 unfolding statement_at
@@ -495,8 +498,8 @@ ended_is : (q : Query) (rest : List Token) → is_end (symbol_at rest) ≡ true 
 unfolding ended
 ended_is q rest is = ap (λ b. judged b) is
   where
-  judged : Bool → Reading Query
-  judged b = cond b (Ok (q, rest)) (Err (place_at rest))
+    judged : Bool → Reading Query
+    judged b = cond b (Ok (q, rest)) (Err (place_at rest))
 
 record Ended (q p : Query) (rest : List Token) : Type 0 where
   end : is_end (symbol_at rest) ≡ true
@@ -513,8 +516,8 @@ ended_by false q p mid rest is read = cc read
 of_whole : (r : Reading Query) (q : Query) → answer_of r ≡ Ok q → (rest : List Token) × (r ≡ Ok (q, rest))
 of_whole (Ok read) q is = let same : read.0 ≡ q = cc is in (read.1, ap (λ p. as_read p read.1) same)
   where
-  as_read : Query → List Token → Reading Query
-  as_read p rest = Ok (p, rest)
+    as_read : Query → List Token → Reading Query
+    as_read p rest = Ok (p, rest)
 of_whole (Err at) q is = cc is
 
 -- what is read of a text is its query

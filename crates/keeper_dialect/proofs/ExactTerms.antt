@@ -1,5 +1,5 @@
 -- Words, signs, names and terms are read exactly.
-use Rattle.std.proofs.Common.{◌≡◌, ◌≤◌, ◌<◌, ◌+◌, ℕ, zero, suc, ℤ, Bool, true, false, cond, eqb-true, eq-eqb, List, [], ◌∷◌, ◌++◌, length, drop, Option, Some, None, Ok, Err, refl, sym, ap, ◌∙◌, subst, arith, codes}
+use Rattle.std.proofs.Common.{◌≡◌, ℕ, ℤ, Bool, true, false, cond, eqb-true, List, [], ◌∷◌, ◌++◌, length, drop, Option, Some, None, Ok, Err, refl, sym, ap, ◌∙◌, subst, codes}
 use Rattle.std.specs.Prelude.{Result, ◌==◌, ◌&&◌, not}
 use Rattle.std.proofs.lemmas.Bool.{and_parts}
 use Rattle.std.proofs.lemmas.List.{nil_from_length}
@@ -14,9 +14,9 @@ use Rattle.keeper_dialect.specs.declared.tokens.Symbol.TheVariants as symbol
 use Rattle.keeper_dialect.specs.declared.query.Term.{Term}
 use Rattle.keeper_dialect.specs.declared.query.Term.TheVariants as term
 use Rattle.keeper_dialect.specs.Tokens.{Token}
-use Rattle.keeper_dialect.specs.Reading.{Reading, symbol_at, text_at, before_at, place_at, rank_of, is_keyword, is_sign, keyword_at, sign_at}
+use Rattle.keeper_dialect.specs.Reading.{Reading, symbol_at, text_at, before_at, place_at, is_keyword, is_sign, keyword_at, sign_at}
 use Rattle.keeper_dialect.specs.Terms.{one_at, name_of, name_at, signed, number_term, number_of, number_at, is_text, ok_of, digits_behind, blob_or_name, word_term_at, without_quotes, unquoted, other_term_of, other_term_at, unsigned_term_by, term_at}
-use Rattle.keeper_dialect.specs.Grammar.{Single, one, Keyed, Signed, Name, IsTerm, number, negative, text, blob, null, parameter, name}
+use Rattle.keeper_dialect.specs.Grammar.{Keyed, Signed, Name, IsTerm, number, negative, text, blob, null, parameter, name}
 use Rattle.keeper_dialect.proofs.Exact.{Front, Exact, any, same_value, exact_one}
 use Rattle.keeper_dialect.proofs.ReadingLemmas.{same_rest}
 
@@ -90,17 +90,17 @@ other_at-is s t rest x is value = ap (λ s. one_at (other_term_of s t.text) (t �
 no_digits : (rest : List Token) → no_text (symbol_at rest) ≡ true → digits_behind rest ≡ None
 no_digits rest other = by_text (is_text (symbol_at rest)) other
   where
-  by_text : (b : Bool) → not b ≡ true → cond (b && length (before_at rest) == 0) (ok_of (decode_of (without_quotes 39 (text_at rest)))) None ≡ None
-  by_text true wrong = cc wrong
-  by_text false right = refl
+    by_text : (b : Bool) → not b ≡ true → cond (b && length (before_at rest) == 0) (ok_of (decode_of (without_quotes 39 (text_at rest)))) None ≡ None
+    by_text true wrong = cc wrong
+    by_text false right = refl
 
 word_at-name : (t : Token) (rest : List Token) → no_text (symbol_at rest) ≡ true → word_term_at (t ∷ rest) ≡ Ok (term.Name t.text, rest)
 unfolding word_term_at
 word_at-name t rest other = by_word (is_word t.text (codes "X"))
   where
-  by_word : (b : Bool) → blob_or_name t.text (cond b (digits_behind rest) None) rest ≡ Ok (term.Name t.text, rest)
-  by_word true = ap (λ o. blob_or_name t.text o rest) (no_digits rest other)
-  by_word false = refl
+    by_word : (b : Bool) → blob_or_name t.text (cond b (digits_behind rest) None) rest ≡ Ok (term.Name t.text, rest)
+    by_word true = ap (λ o. blob_or_name t.text o rest) (no_digits rest other)
+    by_word false = refl
 
 digits_are : (t : Token) (rest : List Token) (bytes : List ℕ) → t.symbol ≡ symbol.Text → t.before ≡ [] → decode_of (without_quotes 39 t.text) ≡ Ok bytes → digits_behind (t ∷ rest) ≡ Some bytes
 digits_are t rest bytes is at_once digits = ap (λ s. cond (is_text s && length t.before == 0) (ok_of (decode_of (without_quotes 39 t.text))) None) is ∙ ap (λ bs. cond (length bs == 0) (ok_of (decode_of (without_quotes 39 t.text))) None) at_once ∙ ap ok_of digits
@@ -133,9 +133,9 @@ term_complete x us rest (name t n named) other = named_term t.symbol t rest n re
 other_is : (s : Symbol) (t : Token) (x : Term) → t.symbol ≡ s → other_term_of s t.text ≡ Some x → IsTerm x (t ∷ [])
 other_is (symbol.Keyword k) t x is value = by_null (is_keyword keyword.Null (symbol.Keyword k)) refl value
   where
-  by_null : (b : Bool) → is_keyword keyword.Null (symbol.Keyword k) ≡ b → cond b (Some term.Null) None ≡ Some x → IsTerm x (t ∷ [])
-  by_null true same_rank value = let same : term.Null ≡ x = cc value in subst (λ y. IsTerm y (t ∷ [])) same (null t (is ∙ ap (λ j. symbol.Keyword j) (null_is k same_rank)))
-  by_null false other value = cc value
+    by_null : (b : Bool) → is_keyword keyword.Null (symbol.Keyword k) ≡ b → cond b (Some term.Null) None ≡ Some x → IsTerm x (t ∷ [])
+    by_null true same_rank value = let same : term.Null ≡ x = cc value in subst (λ y. IsTerm y (t ∷ [])) same (null t (is ∙ ap (λ j. symbol.Keyword j) (null_is k same_rank)))
+    by_null false other value = cc value
 other_is symbol.Word t x is value = cc value
 other_is symbol.QuotedName t x is value = let same : term.Name (unquoted 34 t.text) ≡ x = cc value in subst (λ y. IsTerm y (t ∷ [])) same (name t (unquoted 34 t.text) (ap (λ s. name_of s t.text) is))
 other_is symbol.Text t x is value = let same : term.Text (unquoted 39 t.text) ≡ x = cc value in subst (λ y. IsTerm y (t ∷ [])) same (text t is)
@@ -152,9 +152,9 @@ number_is minus symbol.QuotedName t x is value = cc value
 number_is minus symbol.Text t x is value = cc value
 number_is minus symbol.Number t x is value = by_sign (signed minus (digits_value 0 t.text)) refl value
   where
-  by_sign : (o : Option ℤ) → signed minus (digits_value 0 t.text) ≡ o → number_term o ≡ Some x → (n : ℤ) × (t.symbol ≡ symbol.Number) × (signed minus (digits_value 0 t.text) ≡ Some n) × (term.Number n ≡ x)
-  by_sign None fits value = cc value
-  by_sign (Some n) fits value = (n, is, fits, cc value)
+    by_sign : (o : Option ℤ) → signed minus (digits_value 0 t.text) ≡ o → number_term o ≡ Some x → (n : ℤ) × (t.symbol ≡ symbol.Number) × (signed minus (digits_value 0 t.text) ≡ Some n) × (term.Number n ≡ x)
+    by_sign None fits value = cc value
+    by_sign (Some n) fits value = (n, is, fits, cc value)
 number_is minus (symbol.Parameter n) t x is value = cc value
 number_is minus (symbol.Sign b) t x is value = cc value
 number_is minus symbol.Stray t x is value = cc value
@@ -196,19 +196,19 @@ blob_front : (w : Token) (ts : List Token) (bytes : List ℕ) → w.symbol ≡ s
 blob_front w [] bytes is word digits = cc digits
 blob_front w (t ∷ ts) bytes is word digits = by_digits (is_text t.symbol && length t.before == 0) refl digits
   where
-  by_digits : (b : Bool) → (is_text t.symbol && length t.before == 0) ≡ b → cond b (ok_of (decode_of (without_quotes 39 t.text))) None ≡ Some bytes → Front IsTerm (term.Blob bytes) (w ∷ t ∷ ts) (drop 1 (t ∷ ts))
-  by_digits true both value =
-      let parts = and_parts (is_text t.symbol) (length t.before == 0) both in
-      record { front = w ∷ t ∷ []; is = blob w t bytes is word (text_is t.symbol parts.0) (nil_from_length t.before (eqb-true (length t.before) 0 parts.1)) (decoded (decode_of (without_quotes 39 t.text)) bytes value); whole = refl }
-  by_digits false both value = cc value
+    by_digits : (b : Bool) → (is_text t.symbol && length t.before == 0) ≡ b → cond b (ok_of (decode_of (without_quotes 39 t.text))) None ≡ Some bytes → Front IsTerm (term.Blob bytes) (w ∷ t ∷ ts) (drop 1 (t ∷ ts))
+    by_digits true both value =
+        let parts = and_parts (is_text t.symbol) (length t.before == 0) both in
+        record { front = w ∷ t ∷ []; is = blob w t bytes is word (text_is t.symbol parts.0) (nil_from_length t.before (eqb-true (length t.before) 0 parts.1)) (decoded (decode_of (without_quotes 39 t.text)) bytes value); whole = refl }
+    by_digits false both value = cc value
 
 word_sound : (w : Token) (ts : List Token) (x : Term) (rest : List Token) → w.symbol ≡ symbol.Word → word_term_at (w ∷ ts) ≡ Ok (x, rest) → Front IsTerm x (w ∷ ts) rest
 unfolding word_term_at
 word_sound w ts x rest is read = word_front w (cond (is_word w.text (codes "X")) (digits_behind ts) None) ts x rest is read (λ bytes digits. by_word (is_word w.text (codes "X")) refl bytes digits)
   where
-  by_word : (b : Bool) → is_word w.text (codes "X") ≡ b → (bytes : List ℕ) → cond b (digits_behind ts) None ≡ Some bytes → Front IsTerm (term.Blob bytes) (w ∷ ts) (drop 1 ts)
-  by_word true word bytes digits = blob_front w ts bytes is word digits
-  by_word false word bytes digits = cc digits
+    by_word : (b : Bool) → is_word w.text (codes "X") ≡ b → (bytes : List ℕ) → cond b (digits_behind ts) None ≡ Some bytes → Front IsTerm (term.Blob bytes) (w ∷ ts) (drop 1 ts)
+    by_word true word bytes digits = blob_front w ts bytes is word digits
+    by_word false word bytes digits = cc digits
 
 term_sound_by : (s : Symbol) (t : Token) (ts : List Token) (x : Term) (rest : List Token) → t.symbol ≡ s → term_at (t ∷ ts) ≡ Ok (x, rest) → Front IsTerm x (t ∷ ts) rest
 term_sound_by (symbol.Keyword k) t ts x rest is read = other_sound t ts x rest (sym (term_at-symbol (symbol.Keyword k) (t ∷ ts) is) ∙ read)
@@ -219,9 +219,9 @@ term_sound_by symbol.Number t ts x rest is read = number_sound t ts x rest (sym 
 term_sound_by (symbol.Parameter n) t ts x rest is read = other_sound t ts x rest (sym (term_at-symbol (symbol.Parameter n) (t ∷ ts) is) ∙ read)
 term_sound_by (symbol.Sign b) t ts x rest is read = by_minus (b == 45) refl (sym (term_at-symbol (symbol.Sign b) (t ∷ ts) is) ∙ read)
   where
-  by_minus : (m : Bool) → (b == 45) ≡ m → cond m (number_at true ts) (other_term_at (t ∷ ts)) ≡ Ok (x, rest) → Front IsTerm x (t ∷ ts) rest
-  by_minus true minus value = negative_sound t ts x rest (is ∙ ap (λ c. symbol.Sign c) (eqb-true b 45 minus)) value
-  by_minus false minus value = other_sound t ts x rest value
+    by_minus : (m : Bool) → (b == 45) ≡ m → cond m (number_at true ts) (other_term_at (t ∷ ts)) ≡ Ok (x, rest) → Front IsTerm x (t ∷ ts) rest
+    by_minus true minus value = negative_sound t ts x rest (is ∙ ap (λ c. symbol.Sign c) (eqb-true b 45 minus)) value
+    by_minus false minus value = other_sound t ts x rest value
 term_sound_by symbol.Stray t ts x rest is read = other_sound t ts x rest (sym (term_at-symbol symbol.Stray (t ∷ ts) is) ∙ read)
 term_sound_by symbol.End t ts x rest is read = other_sound t ts x rest (sym (term_at-symbol symbol.End (t ∷ ts) is) ∙ read)
 

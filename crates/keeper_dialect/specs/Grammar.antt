@@ -1,5 +1,5 @@
 -- The grammar of the dialect. A part says which tokens are which value: all of them, and no more.
-use Rattle.std.specs.Prelude.{◌≡◌, ℕ, ℤ, Bool, true, false, List, [], ◌∷◌, ◌++◌, length, nat_lt, not, ◌&&◌, if◌then◌else◌, codes, Option, Some, None, Result, Ok, Err, ◌⊎◌}
+use Rattle.std.specs.Prelude.{◌≡◌, ℕ, ℤ, Bool, true, false, List, [], ◌∷◌, ◌++◌, length, nat_lt, not, ◌&&◌, if◌then◌else◌, codes, Option, Some, None, Ok}
 use Rattle.sql_text.specs.Class.{is_word}
 use Rattle.sql_text.specs.Parameters.{digits_value}
 use Rattle.hex.specs.Hex.{decode_of}

@@ -1,5 +1,5 @@
 -- The lists of the dialect: columns, names, tuples, settings and what is shown.
-use Rattle.std.specs.Prelude.{◌==◌, ◌-◌, ℕ, nat_lt, Bool, true, false, ◌&&◌, ◌||◌, List, [], ◌∷◌, ◌++◌, map, length, drop, take, flat_map, Option, Some, None, Result, Ok, Err, if◌then◌else◌}
+use Rattle.std.specs.Prelude.{◌-◌, ℕ, nat_lt, Bool, true, false, List, [], ◌∷◌, ◌++◌, length, drop, take, flat_map, Ok, Err, if◌then◌else◌}
 use Rattle.std.specs.List.{list_any}
 use Rattle.std.specs.Str.{str_eq_ignore_ascii_case}
 use Rattle.keeper_dialect.specs.declared.tokens.Keyword.TheVariants as keyword
@@ -11,7 +11,7 @@ use Rattle.keeper_dialect.specs.declared.query.ColExpr.{ColExpr}
 use Rattle.keeper_dialect.specs.declared.query.Item.{Item}
 use Rattle.keeper_dialect.specs.Tokens.{Token}
 use Rattle.keeper_dialect.specs.Reading.{Reading, and_then, symbol_at, place_at, is_keyword, keyword_at, sign_at, separated}
-use Rattle.keeper_dialect.specs.Terms.{name_at, expr_at, col_expr_at}
+use Rattle.keeper_dialect.specs.Terms.{name_at, expr_at}
 
 -- names compare without regard to ASCII case
 abbrev pub is_same_name : List ℕ → List ℕ → Bool
