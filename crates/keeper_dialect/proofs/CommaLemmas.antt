@@ -1,9 +1,9 @@
 -- Lists behind commas, as the loops read them.
-use Rattle.std.proofs.Common.{◌≡◌, ◌<◌, ℕ, Bool, true, false, List, [], ◌∷◌, ◌++◌, length, drop, Option, Some, None, Ok, Err, refl, sym, ap, ◌∙◌, subst}
+use Rattle.std.proofs.Common.{◌≡◌, ◌<◌, true, false, List, [], ◌∷◌, ◌++◌, length, drop, Some, Ok, sym, ap, ◌∙◌, subst}
 use Rattle.keeper_dialect.specs.declared.query.DialectFail.{DialectFail}
 use Rattle.keeper_dialect.specs.Tokens.{Token}
 use Rattle.keeper_dialect.specs.Reading.{Reading, repeated, behind_comma, separated, symbol_at, is_sign, StopsAs}
-use Rattle.keeper_dialect.proofs.ReadingLemmas.{GoesOn, Within, stops_repeated, goes_repeated, ends_repeated, comma_goes, comma_ends, separated-first, separated-stops}
+use Rattle.keeper_dialect.proofs.ReadingLemmas.{Within, stops_repeated, goes_repeated, ends_repeated, comma_goes, comma_ends, separated-first, separated-stops}
 use Rattle.keeper_dialect.proofs.Shorter.{commas_go_on}
 
 -- each part leaves no more tokens than there were

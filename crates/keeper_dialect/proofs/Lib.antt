@@ -3,3 +3,8 @@ pub mod NameLemmas
 pub mod ReadingLemmas
 pub mod Shorter
 pub mod CommaLemmas
+pub mod Exact
+pub mod ExactTerms
+pub mod ExactLists
+pub mod ExactParts
+pub mod ExactQueries

@@ -1,5 +1,5 @@
 -- Readings one after another, and lists.
-use Rattle.std.proofs.Common.{◌≡◌, ◌≤◌, ◌<◌, ◌+◌, ◌-◌, ℕ, zero, suc, Bool, true, false, cond, List, [], ◌∷◌, ◌++◌, length, drop, Option, Some, None, Ok, Err, refl, sym, ap, ◌∙◌, subst, arith}
+use Rattle.std.proofs.Common.{◌≡◌, ◌≤◌, ◌<◌, ℕ, zero, suc, Bool, true, false, cond, List, [], ◌∷◌, ◌++◌, length, drop, Option, Some, None, Ok, Err, refl, sym, ap, ◌∙◌, subst, arith}
 use Rattle.std.specs.Prelude.{Result, IfErr, IsErrAnd}
 use Rattle.std.proofs.lemmas.List.{length-drop}
 use Rattle.keeper_dialect.specs.declared.query.DialectFail.{DialectFail}
@@ -71,13 +71,17 @@ module _ {A : Type 0} (next : List A → List Token → Option (Reading A)) wher
   repeated-stops zero done ts is = refl
   repeated-stops (suc n) done ts is = ap (λ o. continued done ts o (λ x rest. repeated next n (done ++ x ∷ []) rest)) is
 
-  repeated-one : (n : ℕ) (done : List A) (ts : List Token) (x : A) (rest : List Token) → next done ts ≡ Some (Ok (x, rest)) → repeated next (suc n) done ts ≡ repeated next n (done ++ x ∷ []) rest
+  pub repeated-one : (n : ℕ) (done : List A) (ts : List Token) (x : A) (rest : List Token) → next done ts ≡ Some (Ok (x, rest)) → repeated next (suc n) done ts ≡ repeated next n (done ++ x ∷ []) rest
   unfolding repeated and_then
   repeated-one n done ts x rest is = ap (λ o. continued done ts o (λ x rest. repeated next n (done ++ x ∷ []) rest)) is
 
-  repeated-fail : (n : ℕ) (done : List A) (ts : List Token) (at : ℕ) → next done ts ≡ Some (Err at) → repeated next (suc n) done ts ≡ Err at
+  pub repeated-fail : (n : ℕ) (done : List A) (ts : List Token) (at : ℕ) → next done ts ≡ Some (Err at) → repeated next (suc n) done ts ≡ Err at
   unfolding repeated and_then
   repeated-fail n done ts at is = ap (λ o. continued done ts o (λ x rest. repeated next n (done ++ x ∷ []) rest)) is
+
+  pub repeated-zero : (done : List A) (ts : List Token) → repeated next zero done ts ≡ Ok (done, ts)
+  unfolding repeated
+  repeated-zero done ts = refl
 
   -- enough rounds are as good as more
   enough_by : GoesOn next → (n m : ℕ) (done : List A) (ts : List Token) → length ts ≤ n → length ts ≤ m → (o : Option (Reading A)) → next done ts ≡ o → repeated next n done ts ≡ repeated next m done ts

@@ -1,5 +1,5 @@
 -- Each production leaves no more tokens than there were, and each list goes on with fewer.
-use Rattle.std.proofs.Common.{◌≡◌, ◌≤◌, ◌<◌, ◌+◌, ◌-◌, ℕ, zero, suc, Bool, true, false, cond, List, [], ◌∷◌, ◌++◌, length, drop, Option, Some, None, Ok, Err, refl, sym, ap, ◌∙◌, subst, arith}
+use Rattle.std.proofs.Common.{◌≡◌, ◌≤◌, ◌<◌, ℕ, Bool, true, false, cond, List, [], ◌∷◌, length, drop, Option, Some, None, Ok, refl, arith}
 use Rattle.std.proofs.lemmas.List.{length-drop}
 use Rattle.keeper_dialect.specs.declared.tokens.Keyword.{Keyword}
 use Rattle.keeper_dialect.specs.declared.tokens.Keyword.TheVariants as keyword
@@ -8,12 +8,10 @@ use Rattle.keeper_dialect.specs.declared.query.ColExpr.{ColExpr}
 use Rattle.keeper_dialect.specs.declared.tokens.Symbol.{Symbol}
 use Rattle.keeper_dialect.specs.declared.tokens.Symbol.TheVariants as symbol
 use Rattle.keeper_dialect.specs.declared.query.Add.{Add}
-use Rattle.keeper_dialect.specs.declared.query.Term.{Term}
-use Rattle.keeper_dialect.specs.declared.query.Term.TheVariants as term
 use Rattle.keeper_dialect.specs.Tokens.{Token}
-use Rattle.keeper_dialect.specs.Reading.{Reading, and_then, behind_comma, symbol_at, place_at, text_at, is_sign, is_keyword, keyword_at, sign_at, repeated, separated}
-use Rattle.keeper_dialect.specs.Terms.{one_at, name_of, name_at, number_of, number_at, digits_behind, blob_or_name, word_term_at, other_term_of, other_term_at, unsigned_term_by, term_at, operator_of, operand_at, add_at, adds_at, expr_at, col_expr_at}
-use Rattle.keeper_dialect.specs.Lists.{new_name_at, names_at, exprs_at, tuple_at, tuples_at, set_at, sets_at, item_at, items_at, after_type, key_at, col_name_at, col_def_at, col_defs_at}
+use Rattle.keeper_dialect.specs.Reading.{Reading, and_then, behind_comma, symbol_at, text_at, is_sign, is_keyword, keyword_at, sign_at, separated}
+use Rattle.keeper_dialect.specs.Terms.{one_at, name_of, name_at, number_of, number_at, blob_or_name, word_term_at, other_term_of, other_term_at, unsigned_term_by, term_at, operator_of, operand_at, add_at, adds_at, expr_at}
+use Rattle.keeper_dialect.specs.Lists.{new_name_at, exprs_at, tuple_at, set_at, item_at, is_plain_word, after_type, key_at, col_name_at, col_def_at}
 use Rattle.keeper_dialect.proofs.ReadingLemmas.{Within, GoesOn, within_ok, within_err, within_then, within_if, drop_one_within, repeated_within}
 
 one_within : {A : Type 0} (o : Option A) (ts : List Token) (n : ℕ) → length ts ≤ n → Within n (one_at o ts)
@@ -128,15 +126,11 @@ unfolding item_at
 item_within ts n few = within_then n (expr_at ts) _ (expr_within ts n few) (λ e rest short. within_ok n _ rest short)
 
 after_type_within : (s : Symbol) (ts : List Token) (n : ℕ) → length ts ≤ n → length (after_type s ts) ≤ n
-after_type_within (symbol.Keyword k) ts n few = few
-after_type_within symbol.Word ts n few = drop_one_within ts n few
-after_type_within symbol.QuotedName ts n few = few
-after_type_within symbol.Text ts n few = few
-after_type_within symbol.Number ts n few = few
-after_type_within (symbol.Parameter m) ts n few = few
-after_type_within (symbol.Sign b) ts n few = few
-after_type_within symbol.Stray ts n few = few
-after_type_within symbol.End ts n few = few
+after_type_within s ts n few = by_word (is_plain_word s)
+  where
+    by_word : (b : Bool) → length (cond b (drop 1 ts) ts) ≤ n
+    by_word true = drop_one_within ts n few
+    by_word false = few
 
 key_within : (had : Bool) (ts : List Token) (n : ℕ) → length ts ≤ n → Within n (key_at had ts)
 unfolding key_at

@@ -1,5 +1,5 @@
 -- The tokens of a text, piece by piece.
-use Rattle.std.proofs.Common.{◌≡◌, ◌≤◌, ◌<◌, ◌+◌, ◌-◌, ℕ, Bool, true, false, cond, List, [], ◌∷◌, ◌++◌, map, length, drop, refl, sym, ap, ◌∙◌, subst, arith, append_assoc, length-append}
+use Rattle.std.proofs.Common.{◌≡◌, ◌≤◌, ◌<◌, ◌+◌, ◌-◌, ℕ, Bool, true, false, cond, List, [], ◌∷◌, ◌++◌, length, drop, refl, sym, ap, ◌∙◌, arith, append_assoc}
 use Rattle.std.specs.Prelude.{slice_range}
 use Rattle.std.proofs.lemmas.List.{append_cancel_right, map_push, drop_all, length-drop, length-take-le}
 use Rattle.std.proofs.lemmas.List.Folds.{drop_split}
@@ -7,7 +7,7 @@ use Rattle.sql_text.specs.declared.pieces.Kind.{Kind}
 use Rattle.sql_text.specs.Pieces.{Token as Piece, token as piece, pieces}
 use Rattle.sql_text.specs.Parameters.{Numbered}
 use Rattle.sql_text.proofs.PieceLists.{pieces-nil}
-use Rattle.keeper_dialect.specs.Tokens.{Token, tokens_from, tokens_of, token_of, end_token, seen_after, is_passed, view, views}
+use Rattle.keeper_dialect.specs.Tokens.{Token, tokens_from, token_of, end_token, seen_after, is_passed, view, views}
 use Rattle.keeper_dialect.specs.declared.tokens.Token.{Token as HeldToken}
 
 -- two slices that meet

@@ -3,3 +3,4 @@ pub mod Reading
 pub mod Terms
 pub mod Lists
 pub mod Query
+pub mod Grammar

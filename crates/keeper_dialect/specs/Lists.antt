@@ -1,5 +1,5 @@
 -- The lists of the dialect: columns, names, tuples, settings and what is shown.
-use Rattle.std.specs.Prelude.{◌==◌, ◌-◌, ℕ, nat_lt, Bool, true, false, ◌&&◌, ◌||◌, List, [], ◌∷◌, ◌++◌, map, length, drop, take, flat_map, Option, Some, None, Result, Ok, Err, if◌then◌else◌}
+use Rattle.std.specs.Prelude.{◌-◌, ℕ, nat_lt, Bool, true, false, List, [], ◌∷◌, ◌++◌, length, drop, take, flat_map, Ok, Err, if◌then◌else◌}
 use Rattle.std.specs.List.{list_any}
 use Rattle.std.specs.Str.{str_eq_ignore_ascii_case}
 use Rattle.keeper_dialect.specs.declared.tokens.Keyword.TheVariants as keyword
@@ -11,7 +11,7 @@ use Rattle.keeper_dialect.specs.declared.query.ColExpr.{ColExpr}
 use Rattle.keeper_dialect.specs.declared.query.Item.{Item}
 use Rattle.keeper_dialect.specs.Tokens.{Token}
 use Rattle.keeper_dialect.specs.Reading.{Reading, and_then, symbol_at, place_at, is_keyword, keyword_at, sign_at, separated}
-use Rattle.keeper_dialect.specs.Terms.{name_at, expr_at, col_expr_at}
+use Rattle.keeper_dialect.specs.Terms.{name_at, expr_at}
 
 -- names compare without regard to ASCII case
 abbrev pub is_same_name : List ℕ → List ℕ → Bool
@@ -79,17 +79,21 @@ item_at ts = and_then (expr_at ts) (λ e rest. Ok (record { text = source_text (
 unfoldable pub items_at : List Token → Reading (List Item)
 items_at ts = separated (λ done. item_at) ts
 
--- a type's name, which isn't reserved and may be left out
+-- a word that isn't reserved
+abbrev pub is_plain_word : Symbol → Bool
+is_plain_word (symbol.Keyword k) = false
+is_plain_word symbol.Word = true
+is_plain_word symbol.QuotedName = false
+is_plain_word symbol.Text = false
+is_plain_word symbol.Number = false
+is_plain_word (symbol.Parameter n) = false
+is_plain_word (symbol.Sign b) = false
+is_plain_word symbol.Stray = false
+is_plain_word symbol.End = false
+
+-- behind a type's name, which may be left out
 abbrev pub after_type : Symbol → List Token → List Token
-after_type (symbol.Keyword k) ts = ts
-after_type symbol.Word ts = drop 1 ts
-after_type symbol.QuotedName ts = ts
-after_type symbol.Text ts = ts
-after_type symbol.Number ts = ts
-after_type (symbol.Parameter n) ts = ts
-after_type (symbol.Sign b) ts = ts
-after_type symbol.Stray ts = ts
-after_type symbol.End ts = ts
+after_type s ts = if is_plain_word s then drop 1 ts else ts
 
 abbrev pub is_col : List ColDef → List ℕ → Bool
 is_col cols name = list_any (λ col. is_same_name col.name name) cols

@@ -1,5 +1,5 @@
 -- The query that a text is, or the place of the first token that can't follow.
-use Rattle.std.specs.Prelude.{◌==◌, ◌≡◌, ℕ, Bool, true, false, List, [], ◌∷◌, drop, Option, Some, None, Result, Ok, Err, if◌then◌else◌}
+use Rattle.std.specs.Prelude.{◌≡◌, ℕ, Bool, true, false, List, drop, Option, Some, None, Result, Ok, Err, if◌then◌else◌}
 use Rattle.keeper_dialect.specs.declared.tokens.Keyword.{Keyword}
 use Rattle.keeper_dialect.specs.declared.tokens.Keyword.TheVariants as keyword
 use Rattle.keeper_dialect.specs.declared.tokens.Symbol.{Symbol}

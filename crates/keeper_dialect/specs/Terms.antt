@@ -1,5 +1,5 @@
 -- Names, terms and expressions at the front of some tokens.
-use Rattle.std.specs.Prelude.{◌==◌, ◌-◌, ◌*◌, ◌+◌, ◌^◌, ℕ, zero, suc, ℤ, pos, negsuc, nat_lt, nat_le, Bool, true, false, ◌&&◌, List, [], ◌∷◌, ◌++◌, map, length, drop, take, slice_index, slice_range, flat_map, codes, Option, Some, None, Result, Ok, Err, if◌then◌else◌}
+use Rattle.std.specs.Prelude.{◌==◌, ◌-◌, ◌^◌, ℕ, zero, suc, ℤ, pos, negsuc, nat_lt, nat_le, Bool, true, false, ◌&&◌, List, [], ◌∷◌, length, drop, slice_index, slice_range, codes, Option, Some, None, Result, Ok, Err, if◌then◌else◌}
 use Rattle.sql_text.specs.Class.{is_word}
 use Rattle.sql_text.specs.Parameters.{digits_value}
 use Rattle.hex.specs.Hex.{decode_of}
@@ -13,7 +13,7 @@ use Rattle.keeper_dialect.specs.declared.query.Add.{Add}
 use Rattle.keeper_dialect.specs.declared.query.Expr.{Expr}
 use Rattle.keeper_dialect.specs.declared.query.ColExpr.{ColExpr}
 use Rattle.keeper_dialect.specs.Tokens.{Token}
-use Rattle.keeper_dialect.specs.Reading.{Reading, and_then, symbol_at, text_at, before_at, place_at, is_keyword, is_sign, keyword_at, sign_at, repeated}
+use Rattle.keeper_dialect.specs.Reading.{Reading, and_then, symbol_at, text_at, before_at, place_at, is_keyword, is_sign, sign_at, repeated}
 
 -- a run without the quotes round it
 unfoldable pub without_quotes : ℕ → List ℕ → List ℕ

@@ -18,6 +18,7 @@
 #![tactic(auto)]
 
 mod exprs;
+mod laws;
 mod lists;
 mod names;
 mod parser;
@@ -29,6 +30,7 @@ mod terms;
 mod tests;
 mod tokens;
 
+pub use laws::{no_text_is_two_queries, queries_are_read};
 pub use parser::parse;
 pub use query::{
     Add, Adds, ColDef, ColDefs, ColExpr, ColExprs, DialectFail, Expr, Exprs, Item, Items, NameList,

@@ -1,5 +1,5 @@
-use Rattle.std.proofs.Common.{◌≡◌, [], ◌+◌, ◌-◌, ◌++◌, ℕ, List, length, get_or, drop, ap, sym, ◌∙◌, subst, arith, true, false, Bool, string_bytes, ◌<◌, ◌≤◌}
-use Rattle.std.specs.Prelude.{slice_range, ◌==◌, ◌&&◌}
+use Rattle.std.proofs.Common.{◌≡◌, [], ◌+◌, ◌++◌, length, get_or, ap, sym, ◌∙◌, subst, arith, true, false, string_bytes, ◌<◌, ◌≤◌}
+use Rattle.std.specs.Prelude.{◌==◌, ◌&&◌}
 use Rattle.std.specs.Str.{IsCharBoundary}
 use Rattle.std.proofs.lemmas.Str.{IsCharBoundary-start}
 use Rattle.keeper_dialect.specs.Terms.{undoubled}

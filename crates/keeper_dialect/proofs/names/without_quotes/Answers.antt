@@ -1,4 +1,4 @@
-use Rattle.std.proofs.Common.{◌≡◌, ◌-◌, get_or, length, ap, sym, ◌∙◌, arith}
+use Rattle.std.proofs.Common.{◌-◌, get_or, length, ap, sym, ◌∙◌, arith}
 use Rattle.keeper_dialect.proofs.NameLemmas.{quote_starts, quote_ends}
 use Rattle.keeper_dialect.proofs.names.without_quotes.Goals as goal
 

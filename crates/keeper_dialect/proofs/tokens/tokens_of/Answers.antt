@@ -1,9 +1,9 @@
-use Rattle.std.proofs.Common.{◌≡◌, refl, ℕ, List, length, IsUtf8, ◌∷◌, ◌++◌, ◌≤◌, ◌+◌, [], ap, sym, ◌∙◌, arith, subst, drop, append-nil}
+use Rattle.std.proofs.Common.{◌≡◌, refl, ℕ, List, length, IsUtf8, ◌∷◌, ◌++◌, ◌≤◌, [], ap, sym, ◌∙◌, arith, subst, drop, append-nil}
 use Rattle.std.specs.Prelude.{slice_range}
 use Rattle.std.specs.Str.{IsCharBoundary}
 use Rattle.std.proofs.lemmas.Str.{IsCharBoundary-start}
 use Rattle.sql_text.specs.Pieces.{pieces, token as piece}
-use Rattle.sql_text.specs.Parameters.{views as parameter_views, AreApart}
+use Rattle.sql_text.specs.Parameters.{views as parameter_views}
 use Rattle.sql_text.specs.declared.pieces.Kind.{Kind}
 use Rattle.sql_text.specs.declared.parameters.Parameter.{Parameter}
 use Rattle.sql_text.proofs.BindLemmas.{apart_none}

@@ -1,9 +1,9 @@
-use Rattle.std.proofs.Common.{◌≡◌, ◌<◌, ◌∙◌, ◌∷◌, ◌++◌, [], subst, Some, Ok, Err, None, Option, Bool, true, false, List, drop, length, sym, ap, arith}
+use Rattle.std.proofs.Common.{◌≡◌, ◌∙◌, [], subst, Some, Ok, Bool, List, drop, sym, ap}
 use Rattle.keeper_dialect.specs.declared.query.Add.{Add}
 use Rattle.keeper_dialect.specs.declared.query.Term.{Term}
 use Rattle.keeper_dialect.specs.declared.query.DialectFail.{DialectFail}
 use Rattle.keeper_dialect.specs.Tokens.{Token}
-use Rattle.keeper_dialect.specs.Reading.{Reading, and_then, repeated, symbol_at, StopsAs}
+use Rattle.keeper_dialect.specs.Reading.{Reading, and_then, symbol_at, StopsAs}
 use Rattle.keeper_dialect.specs.Terms.{term_at, operator_of, operand_at, add_at, adds_at}
 use Rattle.keeper_dialect.proofs.ReadingLemmas.{then_ok, stops_then, handed_on, stops_repeated, goes_repeated, ends_repeated}
 use Rattle.keeper_dialect.proofs.Shorter.{adds_go_on}

@@ -1,4 +1,4 @@
-use Rattle.std.proofs.Common.{◌≡◌, ◌-◌, ◌∙◌, ℕ, List, length, take, map, sym, ap}
+use Rattle.std.proofs.Common.{◌≡◌, ◌-◌, ◌∙◌, ℕ, List, length, take, sym, ap}
 use Rattle.std.proofs.lemmas.List.{length-map, take-map}
 use Rattle.keeper_dialect.specs.Tokens.{Token, view, views}
 use Rattle.keeper_dialect.specs.Lists.{front}

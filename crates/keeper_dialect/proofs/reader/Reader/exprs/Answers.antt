@@ -1,5 +1,5 @@
-use Rattle.std.proofs.Common.{◌≡◌, ◌∙◌, [], refl, Ok, Some, length, ap, sym, subst, arith}
-use Rattle.keeper_dialect.specs.Reading.{behind_comma, StopsAs}
+use Rattle.std.proofs.Common.{◌≡◌, [], refl, Ok, Some, length, arith}
+use Rattle.keeper_dialect.specs.Reading.{behind_comma}
 use Rattle.keeper_dialect.specs.Terms.{expr_at}
 use Rattle.keeper_dialect.specs.Lists.{exprs_at}
 use Rattle.keeper_dialect.proofs.ReadingLemmas.{handed_on}

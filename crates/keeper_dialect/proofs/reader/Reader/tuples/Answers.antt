@@ -1,5 +1,5 @@
-use Rattle.std.proofs.Common.{◌≡◌, ◌∙◌, [], refl, Ok, Some, length, ap, sym, subst, arith}
-use Rattle.keeper_dialect.specs.Reading.{behind_comma, StopsAs}
+use Rattle.std.proofs.Common.{◌≡◌, [], refl, Ok, Some, length, arith}
+use Rattle.keeper_dialect.specs.Reading.{behind_comma}
 use Rattle.keeper_dialect.specs.Lists.{tuple_at, tuples_at}
 use Rattle.keeper_dialect.proofs.ReadingLemmas.{handed_on}
 use Rattle.keeper_dialect.proofs.Shorter.{tuple_within}
