@@ -1,0 +1,5 @@
+pub mod Conditions
+pub mod Means
+pub mod Progress
+pub mod Tree
+pub mod Written
