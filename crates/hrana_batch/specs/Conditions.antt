@@ -1,5 +1,5 @@
 -- When a condition holds, which steps it names, and how deep it is.
-use Rattle.std.specs.Prelude.{ℕ, suc, ◌≤◌, Bool, true, false, not, List, [], ◌∷◌, Option, None, Some, slice_get, nat_lt, max, IsTrue}
+use Rattle.std.specs.Prelude.{ℕ, suc, ◌≤◌, Bool, true, false, not, List, [], ◌∷◌, map, Option, None, Some, slice_get, nat_lt, max, IsTrue}
 use Rattle.std.specs.List.{list_all, list_any}
 use Rattle.hrana_batch.specs.declared.conditions.Cond.{Cond, fold-Cond}
 use Rattle.hrana_batch.specs.declared.conditions.Cond.TheOpen.{Cond-F}
@@ -53,7 +53,7 @@ abbrev pub NamesBelow : ℕ → Cond → Type 0
 NamesBelow n c = IsTrue (names_below n c)
 
 abbrev pub AllNameBelow : ℕ → List Cond → Type 0
-AllNameBelow n cs = IsTrue (list_all (λ c. names_below n c) cs)
+AllNameBelow n cs = IsTrue (list_all (λ b. b) (map (names_below n) cs))
 
 -- ---- its depth
 

@@ -27,10 +27,16 @@ pub record BatchMeans (b : Batch) (autos : List Bool) (outcomes : List Outcome) 
 abbrev pub NextStep : Progress → (Step → Type 0) → Type 0
 NextStep p P = (length p.outcomes < length p.batch.steps) × IsSomeAnd (slice_get p.batch.steps (length p.outcomes)) P
 
+-- what is next where it is the turn of this step
+abbrev pub NextOf : Step → List Outcome → Bool → Next → Type 0
+NextOf s outcomes auto (Run stmt) = (IsPassedOver outcomes auto s → ⊥) × (stmt.now ≡ s.stmt)
+NextOf s outcomes auto Skip = IsPassedOver outcomes auto s
+NextOf s outcomes auto Finished = ⊥
+
 -- what is next: the statement of the step whose turn it is, or to pass the step over, or nothing more
 abbrev pub NextIs : Progress → Bool → Next → Type 0
-NextIs p auto (Run stmt) = NextStep p (λ s. (IsPassedOver p.outcomes auto s → ⊥) × (stmt.now ≡ s.stmt))
-NextIs p auto Skip = NextStep p (IsPassedOver p.outcomes auto)
+NextIs p auto (Run stmt) = NextStep p (λ s. NextOf s p.outcomes auto (Run stmt))
+NextIs p auto Skip = NextStep p (λ s. NextOf s p.outcomes auto Skip)
 NextIs p auto Finished = length p.outcomes ≡ length p.batch.steps
 
 -- The turns of a run: at each it was asked with a flag and told an outcome, which was `Skipped` exactly where `Skip` was

@@ -1,5 +1,5 @@
 // When a condition holds.
-ghost use Rattle.std.specs.Prelude.{◌≡◌, ◌<◌, length, slice_get};
+ghost use Rattle.std.specs.Prelude.{◌≡◌, ◌<◌, length, slice_get, map};
 ghost use Rattle.std.specs.List.{list_all, list_any};
 ghost use Rattle.hrana_batch.specs.Conditions.{holds_on, NamesBelow, AllNameBelow, is_done, is_failed};
 
@@ -46,7 +46,7 @@ pub fn holds(cond: &Cond, outcomes: &[Outcome], auto: bool) -> bool
 #[cycle(holds)]
 fn all_hold(parts: &[Cond], outcomes: &[Outcome], auto: bool) -> bool
     requires { AllNameBelow (length outcomes.now) parts.now }
-    ensures { result ≡ list_all (λ part. holds_on outcomes.now auto part) parts.now }
+    ensures { result ≡ list_all (λ b. b) (map (holds_on outcomes.now auto) parts.now) }
 {
     for part in parts {
         if !holds(part, outcomes, auto) {
@@ -59,7 +59,7 @@ fn all_hold(parts: &[Cond], outcomes: &[Outcome], auto: bool) -> bool
 #[cycle(holds)]
 fn any_holds(parts: &[Cond], outcomes: &[Outcome], auto: bool) -> bool
     requires { AllNameBelow (length outcomes.now) parts.now }
-    ensures { result ≡ list_any (λ part. holds_on outcomes.now auto part) parts.now }
+    ensures { result ≡ list_any (λ b. b) (map (holds_on outcomes.now auto) parts.now) }
 {
     for part in parts {
         if holds(part, outcomes, auto) {

@@ -1,7 +1,8 @@
 // A batch that is run step by step.
-ghost use Rattle.std.specs.Prelude.{◌≡◌, ◌<◌, [], ◌∷◌, ◌++◌, length, IfOk, OnSome};
+ghost use Rattle.std.specs.Prelude.{◌≡◌, ◌<◌, [], ◌∷◌, ◌++◌, length, IfOk, IfSome, OnSome};
+ghost use Rattle.hrana_batch.specs.Conditions.{NamesBelow};
 ghost use Rattle.hrana_batch.specs.Progress.{NamesEarlierSteps};
-ghost use Rattle.hrana_batch.specs.Means.{NextIs, TurnsAreMeant};
+ghost use Rattle.hrana_batch.specs.Means.{NextOf, NextIs, TurnsAreMeant};
 
 use crate::{Batch, BatchResult, Outcome, Outcomes, Step, holds};
 use hrana_stmt::Stmt;
@@ -41,7 +42,10 @@ impl Model for BatchRun {
     ghost invariant = { λ r. NamesEarlierSteps r.batch × (length r.outcomes.items ≤ length r.batch.steps) × (length r.batch.steps ≤ vec_capacity r.outcomes) };
 }
 
-fn next_of<'a>(step: &'a Step, outcomes: &[Outcome], auto: bool) -> Next<'a> {
+fn next_of<'a>(step: &'a Step, outcomes: &[Outcome], auto: bool) -> Next<'a>
+    requires { IfSome step.now.condition (NamesBelow (length outcomes.now)) }
+    ensures { NextOf step.now outcomes.now auto result }
+{
     match &step.condition {
         None => Next::Run(&step.stmt),
         Some(condition) => {

@@ -1,0 +1,3 @@
+pub mod CondLemmas
+pub mod MeansLemmas
+pub mod SizeLemmas
