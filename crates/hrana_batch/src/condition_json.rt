@@ -1,11 +1,11 @@
 // Conditions from JSON trees and back.
 ghost use Rattle.std.specs.Prelude.{◌≡◌, ◌≤◌, ◌⊎◌, ℕ, IfOk, IfErr, IsTrue, ◌↔◌, codes, map, Ok, Err};
 ghost use Rattle.serde_json.specs.Data.{array};
-ghost use Rattle.serde_json.specs.View.{view};
+ghost use Rattle.serde_json.specs.View.{view, items_view};
 ghost use Rattle.hrana_value.specs.Declines.{Reads};
 ghost use Rattle.hrana_value.specs.Members.{part_at};
 ghost use Rattle.hrana_value.specs.Names.{RowsDiffer};
-ghost use Rattle.hrana_value.specs.Trees.{ArrayTree, ArrayStands};
+ghost use Rattle.hrana_value.specs.Trees.{ItemsTree, ItemsStand, ArrayTree, ArrayStands};
 ghost use Rattle.hrana_batch.specs.Conditions.{depth_of, greatest};
 ghost use Rattle.hrana_batch.specs.Tree.{HasKind, CondTree, StandsWithin, CondStands, NoTreeIsTwoConditions};
 ghost use Rattle.hrana_batch.specs.Written.{cond_data, step_cond, not_cond, list_cond};
@@ -68,20 +68,33 @@ fn negated(
     requires part { Reads (λ c. CondTree c (part_at (codes "cond") (view json.now))) (StandsWithin step (part_at (codes "cond") (view json.now))) part }
     ensures { Reads (λ c. CondTree c (view json.now)) (StandsWithin step (view json.now)) result }
 {
-    match Boxed::new(alloc, part?) {
-        Ok(part) => Ok(Cond::Not(part)),
-        Err(_) => Err(ReadFail::NoMemory),
+    match part {
+        Ok(part) => match Boxed::new(alloc, part) {
+            Ok(part) => Ok(Cond::Not(part)),
+            Err(_) => Err(ReadFail::NoMemory),
+        },
+        Err(fail) => Err(fail),
     }
 }
 
-fn all_of(_json: &Json, parts: Result<Conds, ReadFail>) -> Result<Cond, ReadFail> {
+// The conjunction of parts that were read.
+fn all_of(step: usize, json: &Json, parts: Result<Conds, ReadFail>) -> Result<Cond, ReadFail>
+    requires kind { HasKind (view json.now) (codes "and") }
+    requires parts { Reads (λ cs. ArrayTree CondTree cs (part_at (codes "conds") (view json.now))) (ArrayStands (StandsWithin step) (part_at (codes "conds") (view json.now))) parts }
+    ensures { Reads (λ c. CondTree c (view json.now)) (StandsWithin step (view json.now)) result }
+{
     match parts {
         Ok(parts) => Ok(Cond::All(parts)),
         Err(fail) => Err(fail),
     }
 }
 
-fn any_of(_json: &Json, parts: Result<Conds, ReadFail>) -> Result<Cond, ReadFail> {
+// The disjunction of parts that were read.
+fn any_of(step: usize, json: &Json, parts: Result<Conds, ReadFail>) -> Result<Cond, ReadFail>
+    requires kind { HasKind (view json.now) (codes "or") }
+    requires parts { Reads (λ cs. ArrayTree CondTree cs (part_at (codes "conds") (view json.now))) (ArrayStands (StandsWithin step) (part_at (codes "conds") (view json.now))) parts }
+    ensures { Reads (λ c. CondTree c (view json.now)) (StandsWithin step (view json.now)) result }
+{
     match parts {
         Ok(parts) => Ok(Cond::Any(parts)),
         Err(fail) => Err(fail),
@@ -93,7 +106,6 @@ fn any_of(_json: &Json, parts: Result<Conds, ReadFail>) -> Result<Cond, ReadFail
 fn cond_of_tree(alloc: Global, step: usize, json: &Json) -> Result<Cond, ReadFail>
     ensures { Reads (λ c. CondTree c (view json.now)) (StandsWithin step (view json.now)) result }
 {
-    let null = Json::Null;
     let Some(kind) = text_member(json, "type") else {
         return Err(ReadFail::Declined(Decline::Shape));
     };
@@ -101,17 +113,17 @@ fn cond_of_tree(alloc: Global, step: usize, json: &Json) -> Result<Cond, ReadFai
         Some(OK) => step_ok_of_json(step, json),
         Some(ERROR) => step_error_of_json(step, json),
         Some(NOT) => {
-            let part = cond_of_tree(alloc, step, member(json, "cond", &null));
+            let part = cond_of_tree(alloc, step, member(json, "cond", &Json::Null));
             negated(alloc, step, json, part)
         }
-        Some(AND) => all_of(
-            json,
-            conds_of_tree(alloc, step, member(json, "conds", &null)),
-        ),
-        Some(OR) => any_of(
-            json,
-            conds_of_tree(alloc, step, member(json, "conds", &null)),
-        ),
+        Some(AND) => {
+            let parts = conds_of_tree(alloc, step, member(json, "conds", &Json::Null));
+            all_of(step, json, parts)
+        }
+        Some(OR) => {
+            let parts = conds_of_tree(alloc, step, member(json, "conds", &Json::Null));
+            any_of(step, json, parts)
+        }
         Some(IS_AUTOCOMMIT) => Ok(Cond::Autocommit),
         _ => Err(ReadFail::Declined(Decline::Shape)),
     }
@@ -121,9 +133,16 @@ fn cond_of_tree(alloc: Global, step: usize, json: &Json) -> Result<Cond, ReadFai
 fn conds_of_tree(alloc: Global, step: usize, json: &Json) -> Result<Conds, ReadFail>
     ensures { Reads (λ cs. ArrayTree CondTree cs (view json.now)) (ArrayStands (StandsWithin step) (view json.now)) result }
 {
-    let Json::Array(items) = json else {
-        return Err(ReadFail::Declined(Decline::Shape));
-    };
+    match json {
+        Json::Array(items) => conds_of_items(alloc, step, items.as_slice()),
+        _ => Err(ReadFail::Declined(Decline::Shape)),
+    }
+}
+
+#[cycle(conditions)]
+fn conds_of_items(alloc: Global, step: usize, items: &[Json]) -> Result<Conds, ReadFail>
+    ensures { Reads (λ cs. ItemsTree CondTree cs (items_view items.now)) (ItemsStand (StandsWithin step) (items_view items.now)) result }
+{
     let mut conds = Ok(Vec::new(alloc));
     for item in items {
         conds = with_item(conds, cond_of_tree(alloc, step, item));
