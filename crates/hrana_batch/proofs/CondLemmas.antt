@@ -1,5 +1,5 @@
 -- A condition, level by level.
-use Rattle.std.proofs.Common.{◌≡◌, ℕ, zero, suc, ◌<◌, List, [], ◌∷◌, Bool, true, false, ◌&&◌, ◌||◌, rules, not, map, length, get_or, ◌++◌, ◌+◌, take, arith, sym, ◌∙◌, refl, ap}
+use Rattle.std.proofs.Common.{◌≡◌, ℕ, zero, suc, ◌<◌, ◌≤◌, max, List, [], ◌∷◌, Bool, true, false, ◌&&◌, ◌||◌, rules, not, map, length, get_or, ◌++◌, ◌+◌, take, arith, sym, ◌∙◌, refl, ap}
 use Rattle.std.proofs.lemmas.List.{take_more, map-append}
 use Rattle.std.specs.Prelude.{slice_get, nat_lt}
 use Rattle.std.specs.List.{list_all, list_any}
@@ -103,3 +103,21 @@ pub all_more : (f : Cond → Bool) (cs : List Cond) (i : ℕ) (c : Cond) → i <
 all_more f cs i c h e p q =
     let same : take (i + 1) cs ≡ take i cs ++ c ∷ [] = take_more cs i c h ∙ ap (λ k. take i cs ++ k ∷ []) (sym e) in
     rw (same, map-append f (take i cs) (c ∷ [])) (list_all-append (map f (take i cs)) (map f (c ∷ [])) p (rw q refl))
+
+-- ---- the deepest part
+
+pub greatest_item : (cs : List Cond) (i : ℕ) (c : Cond) → i < length cs → c ≡ get_or cs i c → depth_of c ≤ greatest (map depth_of cs)
+greatest_item [] i c h e = absurd (omega arith)
+greatest_item (d ∷ cs) zero c h e = omega (arith, ap depth_of e)
+greatest_item (d ∷ cs) (suc i) c h e = omega (arith, greatest_item cs i c (omega arith) e)
+
+greatest-append : (xs ys : List ℕ) → greatest (xs ++ ys) ≡ max (greatest xs) (greatest ys)
+greatest-append [] ys = omega arith
+greatest-append (x ∷ xs) ys = omega (arith, greatest-append xs ys)
+
+pub greatest_more : (cs : List Cond) (i : ℕ) (c : Cond) (n : ℕ) → i < length cs → c ≡ get_or cs i c → greatest (map depth_of (take i cs)) ≤ n → depth_of c ≤ n → greatest (map depth_of (take (i + 1) cs)) ≤ n
+greatest_more cs i c n h e p q =
+    let same : take (i + 1) cs ≡ take i cs ++ c ∷ [] = take_more cs i c h ∙ ap (λ k. take i cs ++ k ∷ []) (sym e) in
+    let parts : greatest (map depth_of (take (i + 1) cs)) ≡ max (greatest (map depth_of (take i cs))) (greatest (map depth_of (c ∷ []))) =
+    ap (λ l. greatest (map depth_of l)) same ∙ ap greatest (map-append depth_of (take i cs) (c ∷ [])) ∙ greatest-append (map depth_of (take i cs)) (map depth_of (c ∷ [])) in
+    omega (arith, parts)

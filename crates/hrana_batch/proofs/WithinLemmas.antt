@@ -22,7 +22,7 @@ IsStepKind t = HasKind t (codes "ok") ⊎ HasKind t (codes "error")
 abbrev pub IsListKind : Data → Type 0
 IsListKind t = HasKind t (codes "and") ⊎ HasKind t (codes "or")
 
-clash : (t : Data) (x y : List ℕ) → pointwise nat_eq x y ≡ false → HasKind t x → HasKind t y → ⊥
+pub clash : (t : Data) (x y : List ℕ) → pointwise nat_eq x y ≡ false → HasKind t x → HasKind t y → ⊥
 clash t x y d p q = apart (text_at (codes "type") t) x y d p q
 
 step_no_list : (t : Data) → IsStepKind t → IsListKind t → ⊥

@@ -1,14 +1,14 @@
 // Conditions from JSON trees and back.
-ghost use Rattle.std.specs.Prelude.{◌≡◌, ◌≤◌, ◌⊎◌, ℕ, IfOk, IfErr, IsTrue, ◌↔◌, codes, map, Ok, Err};
-ghost use Rattle.serde_json.specs.Data.{array};
-ghost use Rattle.serde_json.specs.View.{view, items_view};
+ghost use Rattle.std.specs.Prelude.{◌≡◌, ◌≤◌, ◌<◌, ◌^◌, ◌⊎◌, ℕ, IfOk, IfErr, IsTrue, ◌↔◌, codes, map, Ok, Err};
+ghost use Rattle.serde_json.specs.Data.{object};
+ghost use Rattle.serde_json.specs.View.{view, items_view, members_view};
 ghost use Rattle.hrana_value.specs.Declines.{Reads};
 ghost use Rattle.hrana_value.specs.Members.{part_at};
 ghost use Rattle.hrana_value.specs.Names.{RowsDiffer};
 ghost use Rattle.hrana_value.specs.Trees.{ItemsTree, ItemsStand, ArrayTree, ArrayStands};
 ghost use Rattle.hrana_batch.specs.Conditions.{depth_of, greatest};
 ghost use Rattle.hrana_batch.specs.Tree.{HasKind, CondTree, StandsWithin, CondStands, NoTreeIsTwoConditions};
-ghost use Rattle.hrana_batch.specs.Written.{cond_data, step_cond, not_cond, list_cond};
+ghost use Rattle.hrana_batch.specs.Written.{cond_data, type_member, step_cond, not_cond, list_cond};
 
 use crate::step_numbers::step_number_of_json;
 use crate::{Cond, Conds};
@@ -157,14 +157,13 @@ fn conds_of_items(alloc: Global, step: usize, items: &[Json]) -> Result<Conds, R
 fn is_within(cond: &Cond, limit: u32) -> bool
     ensures { IsTrue result ↔ (depth_of cond.now ≤ limit) }
 {
-    if limit == 0 {
-        return false;
-    }
     match cond {
-        Cond::Not(part) => is_within(part.get(), limit - 1),
-        Cond::All(parts) => are_within(parts.as_slice(), limit - 1),
-        Cond::Any(parts) => are_within(parts.as_slice(), limit - 1),
-        _ => true,
+        Cond::StepOk(_) => limit >= 1,
+        Cond::StepError(_) => limit >= 1,
+        Cond::Not(part) => limit >= 1 && is_within(part.get(), limit - 1),
+        Cond::All(parts) => limit >= 1 && are_within(parts.as_slice(), limit - 1),
+        Cond::Any(parts) => limit >= 1 && are_within(parts.as_slice(), limit - 1),
+        Cond::Autocommit => limit >= 1,
     }
 }
 
@@ -199,29 +198,65 @@ pub fn cond_of_json(alloc: Global, step: usize, json: &Json) -> Result<Cond, Rea
 
 // ---- writing
 
-fn kind_members(alloc: Global, kind: &str) -> Result<Map<String, Json>, NoMemory> {
+fn kind_members(alloc: Global, kind: &str) -> Result<Map<String, Json>, NoMemory>
+    ensures { IfOk result (λ members. members_view members.entries ≡ type_member kind.now) }
+{
     let mut members = Map::new(alloc);
     let kind = json!(in alloc; kind)?;
     put(&mut members, alloc, "type", kind)?;
     Ok(members)
 }
 
-fn step_to_json(alloc: Global, kind: &str, step: u32) -> Result<Json, NoMemory> {
+fn step_to_json(alloc: Global, kind: &str, step: u32) -> Result<Json, NoMemory>
+    ensures written { IfOk result (λ json. view json ≡ step_cond kind.now step) }
+    ensures fits { step < 2 ^ 32 }
+{
     let mut members = kind_members(alloc, kind)?;
     put(&mut members, alloc, "step", Json::from(step))?;
     Ok(Json::Object(members))
 }
 
-fn not_to_json(alloc: Global, part: Json) -> Result<Json, NoMemory> {
+fn kind_to_json(alloc: Global, kind: &str) -> Result<Json, NoMemory>
+    ensures { IfOk result (λ json. view json ≡ object (type_member kind.now)) }
+{
+    Ok(Json::Object(kind_members(alloc, kind)?))
+}
+
+fn not_to_json(alloc: Global, part: Json) -> Result<Json, NoMemory>
+    ensures { IfOk result (λ json. view json ≡ not_cond (view part)) }
+{
     let mut members = kind_members(alloc, "not")?;
     put(&mut members, alloc, "cond", part)?;
     Ok(Json::Object(members))
 }
 
-fn list_to_json(alloc: Global, kind: &str, parts: Vec<Json>) -> Result<Json, NoMemory> {
+fn list_to_json(alloc: Global, kind: &str, parts: Vec<Json>) -> Result<Json, NoMemory>
+    ensures { IfOk result (λ json. view json ≡ list_cond kind.now (map view parts.items)) }
+{
     let mut members = kind_members(alloc, kind)?;
     put(&mut members, alloc, "conds", Json::Array(parts))?;
     Ok(Json::Object(members))
+}
+
+fn step_ok_to_json(alloc: Global, step: u32) -> Result<Json, NoMemory>
+    ensures written { IfOk result (λ json. view json ≡ cond_data (Cond.StepOk step)) }
+    ensures reads_back { IfOk result (λ json. CondTree (Cond.StepOk step) (view json)) }
+{
+    step_to_json(alloc, "ok", step)
+}
+
+fn step_error_to_json(alloc: Global, step: u32) -> Result<Json, NoMemory>
+    ensures written { IfOk result (λ json. view json ≡ cond_data (Cond.StepError step)) }
+    ensures reads_back { IfOk result (λ json. CondTree (Cond.StepError step) (view json)) }
+{
+    step_to_json(alloc, "error", step)
+}
+
+fn autocommit_to_json(alloc: Global) -> Result<Json, NoMemory>
+    ensures written { IfOk result (λ json. view json ≡ cond_data Cond.Autocommit) }
+    ensures reads_back { IfOk result (λ json. CondTree Cond.Autocommit (view json)) }
+{
+    kind_to_json(alloc, "is_autocommit")
 }
 
 /// Writes a condition with its members in byte order.
@@ -231,17 +266,29 @@ pub fn cond_to_json(alloc: Global, cond: &Cond) -> Result<Json, NoMemory>
     ensures reads_back { IfOk result (λ json. CondTree cond.now (view json)) }
 {
     match cond {
-        Cond::StepOk(step) => step_to_json(alloc, "ok", *step),
-        Cond::StepError(step) => step_to_json(alloc, "error", *step),
-        Cond::Not(part) => not_to_json(alloc, cond_to_json(alloc, part.get())?),
-        Cond::All(parts) => list_to_json(alloc, "and", conds_to_json(alloc, parts.as_slice())?),
-        Cond::Any(parts) => list_to_json(alloc, "or", conds_to_json(alloc, parts.as_slice())?),
-        Cond::Autocommit => Ok(Json::Object(kind_members(alloc, "is_autocommit")?)),
+        Cond::StepOk(step) => step_ok_to_json(alloc, *step),
+        Cond::StepError(step) => step_error_to_json(alloc, *step),
+        Cond::Not(part) => {
+            let part = cond_to_json(alloc, part.get())?;
+            not_to_json(alloc, part)
+        }
+        Cond::All(parts) => {
+            let parts = conds_to_json(alloc, parts.as_slice())?;
+            list_to_json(alloc, "and", parts)
+        }
+        Cond::Any(parts) => {
+            let parts = conds_to_json(alloc, parts.as_slice())?;
+            list_to_json(alloc, "or", parts)
+        }
+        Cond::Autocommit => autocommit_to_json(alloc),
     }
 }
 
 #[cycle(writing)]
-fn conds_to_json(alloc: Global, conds: &[Cond]) -> Result<Vec<Json>, NoMemory> {
+fn conds_to_json(alloc: Global, conds: &[Cond]) -> Result<Vec<Json>, NoMemory>
+    ensures written { IfOk result (λ items. map view items.items ≡ map cond_data conds.now) }
+    ensures reads_back { IfOk result (λ items. ItemsTree CondTree conds.now (items_view items.items)) }
+{
     let mut items = Vec::new(alloc);
     for cond in conds {
         items.push(cond_to_json(alloc, cond)?)?;
