@@ -1,5 +1,5 @@
 -- A tree is one of at most one condition, and a condition is read where it is not too deep.
-use Rattle.std.proofs.Common.{◌≡◌, inl, inr, ℕ, ◌<◌, ◌≤◌, List, ◌∷◌, codes, sym, ◌∙◌, refl, ap, subst, arith}
+use Rattle.std.proofs.Common.{◌≡◌, inl, inr, ℕ, ◌≤◌, List, ◌∷◌, codes, sym, ◌∙◌, refl, ap, subst, arith}
 use Rattle.std.specs.Prelude.{Result, Ok, Err, pos}
 use Rattle.serde_json.specs.Data.{Data, array, Items}
 use Rattle.hrana_value.specs.declared.failures.Decline.{Decline}

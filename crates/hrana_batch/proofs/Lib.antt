@@ -1,8 +1,10 @@
+pub mod BatchReadings
 pub mod CondLaws
 pub mod CondLemmas
 pub mod CondReadings
 pub mod CondWritten
 pub mod DepthLemmas
+pub mod FitsLemmas
 pub mod MeansLemmas
 pub mod SizeLemmas
 pub mod WithinLemmas

@@ -7,6 +7,7 @@ ghost use Rattle.hrana_value.specs.Trees.{ItemsTree, ArrayTree, OptionalTree, Op
 ghost use Rattle.hrana_value.specs.declared.failures.Decline.TheVariants.{Range};
 ghost use Rattle.hrana_stmt.specs.Tree.{StmtTree, StmtStands, count_of};
 ghost use Rattle.hrana_batch.specs.Tree.{CondTree, CondStands, StepTree, StepStands, StepsStand, StepArrayStands, BatchTree, BatchStands, BatchFits, NoTreeIsTwoBatches, FittingBatchesAreRead};
+ghost use Rattle.hrana_batch.specs.Parts.{StepPartsTree};
 ghost use Rattle.hrana_batch.specs.Progress.{NamesEarlierSteps};
 ghost use Rattle.hrana_batch.specs.Written.{step_data, batch_data};
 
@@ -36,11 +37,11 @@ fn step_of_parts(
     step: usize,
     condition: &Json,
     stmt: &Json,
-) -> Result<Step, ReadFail> {
-    match both(
-        optional_cond_of_json(alloc, step, condition),
-        stmt_of_json(alloc, stmt),
-    ) {
+) -> Result<Step, ReadFail>
+    ensures { Reads (λ s. StepPartsTree s (view condition.now) (view stmt.now)) (EitherStands (OptionalStands (CondStands step) (view condition.now)) (StmtStands (view stmt.now))) result }
+{
+    let condition = optional_cond_of_json(alloc, step, condition);
+    match both(condition, stmt_of_json(alloc, stmt)) {
         Ok((condition, stmt)) => Ok(Step { condition, stmt }),
         Err(fail) => Err(fail),
     }
@@ -80,16 +81,28 @@ fn steps_of_json(alloc: Global, json: &Json) -> Result<Steps, ReadFail>
     }
 }
 
-fn step_limit(json: &Json) -> Result<(), ReadFail>
-    ensures { Reads (λ _. count_of (view json.now) ≤ 256) (Only Range (256 < count_of (view json.now))) result }
+fn count(json: &Json) -> usize
+    ensures { result ≡ count_of (view json.now) }
 {
     match json {
-        Json::Array(items) if items.len() > STEP_LIMIT => Err(ReadFail::Declined(Decline::Range)),
-        _ => Ok(()),
+        Json::Array(items) => items.as_slice().len(),
+        _ => 0,
     }
 }
 
-fn batch_of_parts(alloc: Global, steps: &Json) -> Result<Batch, ReadFail> {
+fn step_limit(steps: &Json) -> Result<(), ReadFail>
+    ensures { Reads (λ _. count_of (view steps.now) ≤ 256) (Only Range (256 < count_of (view steps.now))) result }
+{
+    if count(steps) <= STEP_LIMIT {
+        Ok(())
+    } else {
+        Err(ReadFail::Declined(Decline::Range))
+    }
+}
+
+fn batch_of_parts(alloc: Global, steps: &Json) -> Result<Batch, ReadFail>
+    ensures { Reads (λ b. ArrayTree StepTree b.steps (view steps.now)) (EitherStands (StepArrayStands (view steps.now)) (Only Range (256 < count_of (view steps.now)))) result }
+{
     match both(steps_of_json(alloc, steps), step_limit(steps)) {
         Ok((steps, ())) => Ok(Batch { steps }),
         Err(fail) => Err(fail),
