@@ -1,4 +1,5 @@
 pub mod BatchReadings
+pub mod BatchWritten
 pub mod CondLaws
 pub mod CondLemmas
 pub mod CondReadings
@@ -6,5 +7,7 @@ pub mod CondWritten
 pub mod DepthLemmas
 pub mod FitsLemmas
 pub mod MeansLemmas
+pub mod OutcomeReadings
+pub mod ShapeLemmas
 pub mod SizeLemmas
 pub mod WithinLemmas

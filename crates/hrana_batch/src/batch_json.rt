@@ -1,15 +1,15 @@
 // Batches from JSON trees and back.
-ghost use Rattle.std.specs.Prelude.{◌≡◌, ◌<◌, ◌≤◌, IfOk};
+ghost use Rattle.std.specs.Prelude.{◌≡◌, ◌<◌, ◌≤◌, IfOk, map, option_map};
 ghost use Rattle.serde_json.specs.Data.{array};
-ghost use Rattle.serde_json.specs.View.{view, items_view};
+ghost use Rattle.serde_json.specs.View.{view, items_view, items_of};
 ghost use Rattle.hrana_value.specs.Declines.{Reads, EitherStands, Only};
 ghost use Rattle.hrana_value.specs.Trees.{ItemsTree, ArrayTree, OptionalTree, OptionalStands};
 ghost use Rattle.hrana_value.specs.declared.failures.Decline.TheVariants.{Range};
 ghost use Rattle.hrana_stmt.specs.Tree.{StmtTree, StmtStands, count_of};
 ghost use Rattle.hrana_batch.specs.Tree.{CondTree, CondStands, StepTree, StepStands, StepsStand, StepArrayStands, BatchTree, BatchStands, BatchFits, NoTreeIsTwoBatches, FittingBatchesAreRead};
-ghost use Rattle.hrana_batch.specs.Parts.{StepPartsTree};
+ghost use Rattle.hrana_batch.specs.Parts.{StepPartsTree, CondReadsBack};
 ghost use Rattle.hrana_batch.specs.Progress.{NamesEarlierSteps};
-ghost use Rattle.hrana_batch.specs.Written.{step_data, batch_data};
+ghost use Rattle.hrana_batch.specs.Written.{step_object, optional_cond, step_data, batch_object, batch_data};
 
 use crate::{Batch, Cond, Step, Steps, cond_of_json, cond_to_json};
 use hrana_stmt::{stmt_of_json, stmt_to_json};
@@ -118,7 +118,9 @@ pub fn batch_of_json(alloc: Global, json: &Json) -> Result<Batch, ReadFail>
     batch_of_parts(alloc, member(json, "steps", &Json::Null))
 }
 
-fn step_members(alloc: Global, condition: Option<Json>, stmt: Json) -> Result<Json, NoMemory> {
+fn step_members(alloc: Global, condition: Option<Json>, stmt: Json) -> Result<Json, NoMemory>
+    ensures { IfOk result (λ json. view json ≡ step_object (option_map view condition) (view stmt)) }
+{
     let mut members = Map::new(alloc);
     if let Some(condition) = condition {
         put(&mut members, alloc, "condition", condition)?;
@@ -127,10 +129,10 @@ fn step_members(alloc: Global, condition: Option<Json>, stmt: Json) -> Result<Js
     Ok(Json::Object(members))
 }
 
-fn optional_cond_to_json(
-    alloc: Global,
-    condition: &Option<Cond>,
-) -> Result<Option<Json>, NoMemory> {
+fn optional_cond_to_json(alloc: Global, condition: &Option<Cond>) -> Result<Option<Json>, NoMemory>
+    ensures written { IfOk result (λ part. option_map view part ≡ optional_cond condition.now) }
+    ensures reads_back { IfOk result (λ part. CondReadsBack condition.now (option_map view part)) }
+{
     match condition {
         Some(condition) => Ok(Some(cond_to_json(alloc, condition)?)),
         None => Ok(None),
@@ -146,12 +148,23 @@ fn step_to_json(alloc: Global, step: &Step) -> Result<Json, NoMemory>
     step_members(alloc, condition, stmt)
 }
 
-fn steps_to_json(alloc: Global, steps: &[Step]) -> Result<Json, NoMemory> {
+fn steps_to_json(alloc: Global, steps: &[Step]) -> Result<Json, NoMemory>
+    ensures written { IfOk result (λ json. view json ≡ array (items_of (map step_data steps.now))) }
+    ensures reads_back { IfOk result (λ json. ArrayTree StepTree steps.now (view json)) }
+{
     let mut items = Vec::new(alloc);
     for step in steps {
         items.push(step_to_json(alloc, step)?)?;
     }
     Ok(Json::Array(items))
+}
+
+fn batch_members(alloc: Global, steps: Json) -> Result<Json, NoMemory>
+    ensures { IfOk result (λ json. view json ≡ batch_object (view steps)) }
+{
+    let mut members = Map::new(alloc);
+    put(&mut members, alloc, "steps", steps)?;
+    Ok(Json::Object(members))
 }
 
 /// Writes a batch with its members in byte order. A condition that is absent is left out.
@@ -160,9 +173,7 @@ pub fn batch_to_json(alloc: Global, batch: &Batch) -> Result<Json, NoMemory>
     ensures reads_back { IfOk result (λ json. BatchTree batch.now (view json)) }
 {
     let steps = steps_to_json(alloc, batch.steps.as_slice())?;
-    let mut members = Map::new(alloc);
-    put(&mut members, alloc, "steps", steps)?;
-    Ok(Json::Object(members))
+    batch_members(alloc, steps)
 }
 
 /// A JSON tree is the form of at most one batch.

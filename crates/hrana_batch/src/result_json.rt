@@ -1,9 +1,12 @@
 // Results of batches from JSON trees and back.
-ghost use Rattle.std.specs.Prelude.{◌≡◌, length, IfOk};
-ghost use Rattle.serde_json.specs.View.{view, items_view};
+ghost use Rattle.std.specs.Prelude.{◌≡◌, length, map, IfOk};
+ghost use Rattle.serde_json.specs.Data.{array};
+ghost use Rattle.serde_json.specs.View.{view, items_view, items_of};
 ghost use Rattle.hrana_value.specs.Declines.{Reads};
-ghost use Rattle.hrana_batch.specs.Tree.{BatchResultTree, BatchResultStands, NoTreeIsTwoBatchResults, BatchResultsAreRead};
-ghost use Rattle.hrana_batch.specs.Written.{result_entry, error_entry, batch_result_data};
+ghost use Rattle.hrana_value.specs.Trees.{ArrayTree};
+ghost use Rattle.hrana_batch.specs.Tree.{ResultEntryTree, ErrorEntryTree, BatchResultTree, BatchResultStands, NoTreeIsTwoBatchResults, BatchResultsAreRead};
+ghost use Rattle.hrana_batch.specs.Parts.{OutcomeTree, EntriesStand, OutcomesTree, OutcomesStand, OutcomePartsTree, OutcomePartsStand};
+ghost use Rattle.hrana_batch.specs.Written.{result_entry, error_entry, batch_result_object, batch_result_data};
 
 use crate::{BatchResult, Outcome, Outcomes};
 use hrana_stmt::{error_of_json, error_to_json, result_of_json, result_to_json};
@@ -11,7 +14,10 @@ use hrana_value::{Decline, NoMemory, ReadFail, member, with_item};
 use serde_json::{Map, Value as Json, put};
 use std::alloc::Global;
 
-fn outcome_of_entries(alloc: Global, done: &Json, failed: &Json) -> Result<Outcome, ReadFail> {
+// The outcome of a step from its entries in `step_results` and `step_errors`.
+fn outcome_of_entries(alloc: Global, done: &Json, failed: &Json) -> Result<Outcome, ReadFail>
+    ensures { Reads (λ o. OutcomeTree o (view done.now) (view failed.now)) (EntriesStand (view done.now) (view failed.now)) result }
+{
     if done.is_null() {
         if failed.is_null() {
             return Ok(Outcome::Skipped);
@@ -30,8 +36,13 @@ fn outcome_of_entries(alloc: Global, done: &Json, failed: &Json) -> Result<Outco
     }
 }
 
-fn outcomes_of_items(alloc: Global, results: &[Json], errors: &[Json]) -> Result<Outcomes, ReadFail>
+fn outcomes_of_items(
+    alloc: Global,
+    results: &[Json],
+    errors: &[Json],
+) -> Result<Outcomes, ReadFail>
     requires { length results.now ≡ length errors.now }
+    ensures { Reads (λ os. OutcomesTree os (items_view results.now) (items_view errors.now)) (OutcomesStand (items_view results.now) (items_view errors.now)) result }
 {
     let mut outcomes = Ok(Vec::new(alloc));
     for i in 0..results.len() {
@@ -43,13 +54,30 @@ fn outcomes_of_items(alloc: Global, results: &[Json], errors: &[Json]) -> Result
     }
 }
 
-fn outcomes_of_parts(alloc: Global, results: &Json, errors: &Json) -> Result<Outcomes, ReadFail> {
-    match (results, errors) {
-        (Json::Array(results), Json::Array(errors)) if results.len() == errors.len() => {
-            outcomes_of_items(alloc, results.as_slice(), errors.as_slice())
-        }
-        _ => Err(ReadFail::Declined(Decline::Shape)),
+fn outcomes_of_lists(
+    alloc: Global,
+    results: &[Json],
+    errors: &[Json],
+) -> Result<Outcomes, ReadFail>
+    ensures { Reads (λ os. OutcomePartsTree os (array (items_view results.now)) (array (items_view errors.now))) (OutcomePartsStand (array (items_view results.now)) (array (items_view errors.now))) result }
+{
+    if results.len() == errors.len() {
+        outcomes_of_items(alloc, results, errors)
+    } else {
+        Err(ReadFail::Declined(Decline::Shape))
     }
+}
+
+fn outcomes_of_parts(alloc: Global, results: &Json, errors: &Json) -> Result<Outcomes, ReadFail>
+    ensures { Reads (λ os. OutcomePartsTree os (view results.now) (view errors.now)) (OutcomePartsStand (view results.now) (view errors.now)) result }
+{
+    let Some(results) = results.as_array() else {
+        return Err(ReadFail::Declined(Decline::Shape));
+    };
+    let Some(errors) = errors.as_array() else {
+        return Err(ReadFail::Declined(Decline::Shape));
+    };
+    outcomes_of_lists(alloc, results.as_slice(), errors.as_slice())
 }
 
 /// Reads the result of a batch: `step_results` and `step_errors`, of one length and with at most one of the two for a
@@ -65,21 +93,32 @@ pub fn batch_result_of_json(alloc: Global, json: &Json) -> Result<BatchResult, R
     }
 }
 
-fn result_entry_to_json(alloc: Global, outcome: &Outcome) -> Result<Json, NoMemory> {
+fn result_entry_to_json(alloc: Global, outcome: &Outcome) -> Result<Json, NoMemory>
+    ensures written { IfOk result (λ json. view json ≡ result_entry outcome.now) }
+    ensures reads_back { IfOk result (λ json. ResultEntryTree outcome.now (view json)) }
+{
     match outcome {
         Outcome::Done(given) => result_to_json(alloc, given),
-        _ => Ok(Json::Null),
+        Outcome::Failed(_) => Ok(Json::Null),
+        Outcome::Skipped => Ok(Json::Null),
     }
 }
 
-fn error_entry_to_json(alloc: Global, outcome: &Outcome) -> Result<Json, NoMemory> {
+fn error_entry_to_json(alloc: Global, outcome: &Outcome) -> Result<Json, NoMemory>
+    ensures written { IfOk result (λ json. view json ≡ error_entry outcome.now) }
+    ensures reads_back { IfOk result (λ json. ErrorEntryTree outcome.now (view json)) }
+{
     match outcome {
         Outcome::Failed(error) => error_to_json(alloc, error),
-        _ => Ok(Json::Null),
+        Outcome::Done(_) => Ok(Json::Null),
+        Outcome::Skipped => Ok(Json::Null),
     }
 }
 
-fn results_to_json(alloc: Global, outcomes: &[Outcome]) -> Result<Json, NoMemory> {
+fn results_to_json(alloc: Global, outcomes: &[Outcome]) -> Result<Json, NoMemory>
+    ensures written { IfOk result (λ json. view json ≡ array (items_of (map result_entry outcomes.now))) }
+    ensures reads_back { IfOk result (λ json. ArrayTree ResultEntryTree outcomes.now (view json)) }
+{
     let mut items = Vec::new(alloc);
     for outcome in outcomes {
         items.push(result_entry_to_json(alloc, outcome)?)?;
@@ -87,12 +126,24 @@ fn results_to_json(alloc: Global, outcomes: &[Outcome]) -> Result<Json, NoMemory
     Ok(Json::Array(items))
 }
 
-fn errors_to_json(alloc: Global, outcomes: &[Outcome]) -> Result<Json, NoMemory> {
+fn errors_to_json(alloc: Global, outcomes: &[Outcome]) -> Result<Json, NoMemory>
+    ensures written { IfOk result (λ json. view json ≡ array (items_of (map error_entry outcomes.now))) }
+    ensures reads_back { IfOk result (λ json. ArrayTree ErrorEntryTree outcomes.now (view json)) }
+{
     let mut items = Vec::new(alloc);
     for outcome in outcomes {
         items.push(error_entry_to_json(alloc, outcome)?)?;
     }
     Ok(Json::Array(items))
+}
+
+fn batch_result_members(alloc: Global, errors: Json, results: Json) -> Result<Json, NoMemory>
+    ensures { IfOk result (λ json. view json ≡ batch_result_object (view errors) (view results)) }
+{
+    let mut members = Map::new(alloc);
+    put(&mut members, alloc, "step_errors", errors)?;
+    put(&mut members, alloc, "step_results", results)?;
+    Ok(Json::Object(members))
 }
 
 /// Writes the result of a batch with its members in byte order. What a step lacks is null.
@@ -102,10 +153,7 @@ pub fn batch_result_to_json(alloc: Global, given: &BatchResult) -> Result<Json, 
 {
     let errors = errors_to_json(alloc, given.outcomes.as_slice())?;
     let results = results_to_json(alloc, given.outcomes.as_slice())?;
-    let mut members = Map::new(alloc);
-    put(&mut members, alloc, "step_errors", errors)?;
-    put(&mut members, alloc, "step_results", results)?;
-    Ok(Json::Object(members))
+    batch_result_members(alloc, errors, results)
 }
 
 /// A JSON tree is the form of at most one result of a batch.
