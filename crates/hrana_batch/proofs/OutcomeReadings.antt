@@ -24,11 +24,6 @@ use Rattle.hrana_batch.proofs.ShapeLemmas.{FromShape, only_shape, either_from, o
 
 -- ---- one place
 
--- a failure under another name of what stands
-renamed : {A B : Type 0} (m : A → Type 0) (n : B → Type 0) (s t : Decline → Type 0) (fail : ReadFail) → ((k : Decline) → s k → t k) → ((k : Decline) → t k → s k) → Reads m s (Err fail) → Reads n t (Err fail)
-renamed m n s t NoMemory to from reads = Reads-no_memory
-renamed m n s t (Declined k) to from reads = Reads-declined k (IsFirst-same s t k to from reads.declined)
-
 entries_from : (r e : Data) → FromShape (EntriesStand r e)
 entries_from r e =
     either_from (EitherStands (OptionalStands StmtResultStands r) (OptionalStands WireErrorStands e)) (Only Shape (IsGiven r × IsGiven e))
@@ -210,9 +205,3 @@ pub batch_result_read : (t results errors : Data) (r : Result (List Outcome) Rea
 batch_result_read t results errors r os p q is reads =
     let read = subst (PartsRead (part_at (codes "step_results") t) (part_at (codes "step_errors") t)) is (parts_read t results errors r p q reads) in
     Reads-ok (make os) (record { results = read.ok.0; errors = read.ok.1 }) read.undeclined
-
-pub batch_result_failed : (t results errors : Data) (r : Result (List Outcome) ReadFail) (fail : ReadFail) → results ≡ part_at (codes "step_results") t → errors ≡ part_at (codes "step_errors") t → r ≡ Err fail
-    → PartsRead results errors r → Reads {A = BatchResult} (λ b. BatchResultTree b t) (BatchResultStands t) (Err fail)
-batch_result_failed t results errors r fail p q is reads =
-    let read = subst (PartsRead (part_at (codes "step_results") t) (part_at (codes "step_errors") t)) is (parts_read t results errors r p q reads) in
-    renamed (λ os. OutcomePartsTree os (part_at (codes "step_results") t) (part_at (codes "step_errors") t)) (λ b. BatchResultTree b t) (BatchResultStands t) (BatchResultStands t) fail (λ k h. h) (λ k h. h) read

@@ -9,22 +9,14 @@ fn is_done_at(outcomes: &[Outcome], step: u32) -> bool
     requires { step < length outcomes.now }
     ensures { result ≡ is_done (slice_get outcomes.now step) }
 {
-    match &outcomes[step as usize] {
-        Outcome::Done(_) => true,
-        Outcome::Failed(_) => false,
-        Outcome::Skipped => false,
-    }
+    matches!(&outcomes[step as usize], Outcome::Done(_))
 }
 
 fn is_failed_at(outcomes: &[Outcome], step: u32) -> bool
     requires { step < length outcomes.now }
     ensures { result ≡ is_failed (slice_get outcomes.now step) }
 {
-    match &outcomes[step as usize] {
-        Outcome::Done(_) => false,
-        Outcome::Failed(_) => true,
-        Outcome::Skipped => false,
-    }
+    matches!(&outcomes[step as usize], Outcome::Failed(_))
 }
 
 /// Whether a condition holds, after these outcomes. `auto` is whether the session is in autocommit. Takes no memory.

@@ -36,11 +36,7 @@ fn outcome_of_entries(alloc: Global, done: &Json, failed: &Json) -> Result<Outco
     }
 }
 
-fn outcomes_of_items(
-    alloc: Global,
-    results: &[Json],
-    errors: &[Json],
-) -> Result<Outcomes, ReadFail>
+fn outcomes_of_items(alloc: Global, results: &[Json], errors: &[Json]) -> Result<Outcomes, ReadFail>
     requires { length results.now ≡ length errors.now }
     ensures { Reads (λ os. OutcomesTree os (items_view results.now) (items_view errors.now)) (OutcomesStand (items_view results.now) (items_view errors.now)) result }
 {
@@ -54,11 +50,7 @@ fn outcomes_of_items(
     }
 }
 
-fn outcomes_of_lists(
-    alloc: Global,
-    results: &[Json],
-    errors: &[Json],
-) -> Result<Outcomes, ReadFail>
+fn outcomes_of_lists(alloc: Global, results: &[Json], errors: &[Json]) -> Result<Outcomes, ReadFail>
     ensures { Reads (λ os. OutcomePartsTree os (array (items_view results.now)) (array (items_view errors.now))) (OutcomePartsStand (array (items_view results.now)) (array (items_view errors.now))) result }
 {
     if results.len() == errors.len() {
