@@ -7,6 +7,7 @@ pub mod CondWritten
 pub mod DepthLemmas
 pub mod FitsLemmas
 pub mod MeansLemmas
+pub mod NoFloats
 pub mod OutcomeLaws
 pub mod OutcomeReadings
 pub mod ShapeLemmas

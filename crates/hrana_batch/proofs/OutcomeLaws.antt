@@ -1,12 +1,12 @@
 -- A tree is one of at most one result of a batch, in which nothing is declined, and what is written for a result is a
 -- form of it.
-use Rattle.std.proofs.Common.{◌≡◌, ◌⊎◌, inl, inr, ℕ, List, [], ◌∷◌, Option, None, Some, codes, refl, ap, subst, sym, ◌∙◌, arith}
+use Rattle.std.proofs.Common.{◌≡◌, inl, inr, List, [], ◌∷◌, Some, codes, refl, ap, subst, sym, arith}
 use Rattle.serde_json.specs.Data.{Data, null, boolean, number, string, array, object, Items, no_items, item}
 use Rattle.serde_json.specs.Find.{as_str}
-use Rattle.hrana_value.specs.Declines.{NoneStands, EitherStands, Only}
+use Rattle.hrana_value.specs.Declines.{EitherStands, Only}
 use Rattle.hrana_value.specs.Members.{part_at}
 use Rattle.hrana_value.specs.declared.failures.Decline.TheVariants.{Shape}
-use Rattle.hrana_value.specs.Trees.{ItemsTree, ArrayTree, ArrayStands, OptionalTree, OptionalStands}
+use Rattle.hrana_value.specs.Trees.{ItemsTree, ArrayTree, ArrayStands, OptionalStands}
 use Rattle.hrana_value.proofs.DeclineLemmas.{NoneStands-parts}
 use Rattle.hrana_value.proofs.ArrayLemmas.{ArrayTree-none}
 use Rattle.hrana_value.proofs.PartLemmas.{OptionalTree-one, OptionalTree-none}
@@ -17,7 +17,7 @@ use Rattle.hrana_stmt.proofs.ResultReadings.{StmtResultTree-one, StmtResultTree-
 use Rattle.hrana_batch.specs.declared.outcomes.Outcome.{Outcome}
 use Rattle.hrana_batch.specs.declared.outcomes.Outcome.TheVariants.{Skipped, Done, Failed}
 use Rattle.hrana_batch.specs.declared.outcomes.BatchResult.{BatchResult}
-use Rattle.hrana_batch.specs.Tree.{result_of, error_in, ResultEntryTree, ErrorEntryTree, BothGiven, ListsClash, PartsClash, BatchResultTree, BatchResultStands, NoTreeIsTwoBatchResults, BatchResultsAreRead}
+use Rattle.hrana_batch.specs.Tree.{result_of, error_in, ResultEntryTree, ErrorEntryTree, BothGiven, PartsClash, BatchResultTree, NoTreeIsTwoBatchResults, BatchResultsAreRead}
 use Rattle.hrana_batch.specs.Written.{batch_result_object}
 
 -- ---- a tree is one of at most one result of a batch
@@ -47,7 +47,7 @@ entries_one (item r rs) no_items (o ∷ os) (p ∷ ps) a b c d = absurd b
 entries_one (item r rs) (item e es) (o ∷ os) (p ∷ ps) a b c d = cc (entry_one r e o p a.0 b.0 c.0 d.0, entries_one rs es os ps a.1 b.1 c.1 d.1)
 
 -- the items of an array, where it is one
-items_of_array : {A : Type 0} (tree : A → Data → Type 0) (xs : List A) (d : Data) → ArrayTree tree xs d → (ds : Items) × (d ≡ array ds) × ItemsTree tree xs ds
+pub items_of_array : {A : Type 0} (tree : A → Data → Type 0) (xs : List A) (d : Data) → ArrayTree tree xs d → (ds : Items) × (d ≡ array ds) × ItemsTree tree xs ds
 items_of_array tree xs null h = absurd h
 items_of_array tree xs (boolean b) h = absurd h
 items_of_array tree xs (number n) h = absurd h

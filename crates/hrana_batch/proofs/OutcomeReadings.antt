@@ -9,11 +9,11 @@ use Rattle.serde_json.specs.declared.value.Value.{Value as Json}
 use Rattle.hrana_value.specs.declared.failures.Decline.{Decline}
 use Rattle.hrana_value.specs.declared.failures.Decline.TheVariants.{Shape}
 use Rattle.hrana_value.specs.declared.failures.ReadFail.{ReadFail}
-use Rattle.hrana_value.specs.declared.failures.ReadFail.TheVariants.{Declined, NoMemory}
+use Rattle.hrana_value.specs.declared.failures.ReadFail.TheVariants.{Declined}
 use Rattle.hrana_value.specs.Declines.{Reads, EitherStands, Only, more_of}
 use Rattle.hrana_value.specs.Members.{part_at}
 use Rattle.hrana_value.specs.Trees.{ItemsStand, ArrayStands, OptionalStands}
-use Rattle.hrana_value.proofs.DeclineLemmas.{Reads-ok, Reads-declined, Reads-no_memory, Reads-more, Reads-same, IsFirst-same}
+use Rattle.hrana_value.proofs.DeclineLemmas.{Reads-ok, Reads-declined, Reads-more, Reads-same}
 use Rattle.hrana_value.proofs.ItemsLemmas.{ItemsTree-snoc}
 use Rattle.hrana_stmt.specs.Tree.{IsGiven, StmtResultStands, WireErrorStands, items_count}
 use Rattle.hrana_batch.specs.declared.outcomes.Outcome.{Outcome}
