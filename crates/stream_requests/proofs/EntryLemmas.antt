@@ -61,7 +61,7 @@ entry_name-one k l e = one_name entry_name place all_names all_kinds kind.StepBe
 
 -- ---- a tree is one of at most one entry
 
-uint32_one : (t : Data) (m n : ℕ) → Uint32Tree m t → Uint32Tree n t → m ≡ n
+pub uint32_one : (t : Data) (m n : ℕ) → Uint32Tree m t → Uint32Tree n t → m ≡ n
 uint32_one t m n p q = let same : pos m ≡ pos n = one _ _ _ p.is q.is in cc same
 
 uint64_one : (t : Data) (m n : ℕ) → Uint64Tree m t → Uint64Tree n t → m ≡ n
@@ -80,7 +80,7 @@ EntryTree-one t e f p q = absurd (apart _ _ _ refl p.kind q.kind)
 
 -- ---- entries are read
 
-uint32_none : (n : ℕ) (t : Data) → Uint32Tree n t → NoneStands (Uint32Stands t)
+pub uint32_none : (n : ℕ) (t : Data) → Uint32Tree n t → NoneStands (Uint32Stands t)
 uint32_none n t p = WholeStands-none (FitsUnsigned 32) t (pos n) p.is (n, refl, p.fits)
 
 uint64_none : (n : ℕ) (t : Data) → Uint64Tree n t → NoneStands (Uint64Stands t)

@@ -1,3 +1,6 @@
-pub mod NameLemmas
+pub mod AskLemmas
 pub mod EntryLemmas
 pub mod EntryWritten
+pub mod NameLemmas
+pub mod Readings
+pub mod ReplyLemmas
