@@ -7,7 +7,7 @@ use Rattle.hrana_value.specs.declared.failures.ReadFail.{ReadFail}
 use Rattle.hrana_value.specs.Declines.{Reads}
 use Rattle.hrana_value.proofs.DeclineLemmas.{Reads-made, Reads-failed}
 
-at_part : {A : Type 0} (tree : A → Data → Type 0) (stands : Data → Decline → Type 0) (d part : Data) (answer : Result A ReadFail) → d ≡ part → Reads (λ z. tree z d) (stands d) answer → Reads (λ z. tree z part) (stands part) answer
+pub at_part : {A : Type 0} (tree : A → Data → Type 0) (stands : Data → Decline → Type 0) (d part : Data) (answer : Result A ReadFail) → d ≡ part → Reads (λ z. tree z d) (stands d) answer → Reads (λ z. tree z part) (stands part) answer
 at_part tree stands d part answer e reads = subst (λ p. Reads (λ z. tree z p) (stands p) answer) e reads
 
 pub part_made : {A B : Type 0} (tree : A → Data → Type 0) (stands : Data → Decline → Type 0) (after : B → Type 0) (d part : Data) (answer : Result A ReadFail) (x : A) (y : B) → d ≡ part → answer ≡ Ok x

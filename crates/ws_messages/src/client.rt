@@ -1,0 +1,90 @@
+// Messages of a client, from texts and back.
+ghost use Rattle.std.specs.Prelude.{◌≡◌, ℤ, IfOk, IfErr, codes};
+ghost use Rattle.serde_json.specs.View.{view};
+ghost use Rattle.hrana_value.specs.Declines.{NoneStands};
+ghost use Rattle.hrana_value.specs.Members.{HasText};
+ghost use Rattle.hrana_value.specs.declared.failures.Decline.{Decline};
+ghost use Rattle.ws_messages.specs.declared.messages.Why.{Why};
+ghost use Rattle.ws_messages.specs.Client.{ClientTree, ClientStands, ClientDeclines, ClientViolates, IsClientText, IsDeclinedRequest, BreaksAsClient};
+
+use crate::request_json::request_of_json;
+use crate::{ClientMsg, MsgFail, Why};
+use hrana_value::{ReadFail, int32_member, member, optional_text_of_json, text_member};
+use serde_json::Value as Json;
+use std::alloc::Global;
+
+fn hello_of_json(alloc: Global, json: &Json) -> Result<ClientMsg, MsgFail>
+    requires { HasText (view json.now) (codes "type") (codes "hello") }
+    ensures ok { IfOk result (λ m. ClientTree m (view json.now)) }
+    ensures undeclined { IfOk result (λ m. NoneStands (ClientStands (view json.now))) }
+    ensures violation { IfErr result (λ e. (why : Why) → e ≡ MsgFail.Violation why → ClientViolates (view json.now) why) }
+    ensures declined { IfErr result (λ e. (id : ℤ) (d : Decline) → e ≡ MsgFail.Declined id d → ClientDeclines (view json.now) id d) }
+{
+    match optional_text_of_json(alloc, member(json, "jwt", &Json::Null)) {
+        Ok(jwt) => Ok(ClientMsg::Hello { jwt }),
+        Err(ReadFail::Declined(_)) => Err(MsgFail::Violation(Why::BadHello)),
+        Err(ReadFail::NoMemory) => Err(MsgFail::NoMemory),
+    }
+}
+
+fn numbered_of_json(alloc: Global, json: &Json) -> Result<ClientMsg, MsgFail>
+    requires { HasText (view json.now) (codes "type") (codes "request") }
+    ensures ok { IfOk result (λ m. ClientTree m (view json.now)) }
+    ensures undeclined { IfOk result (λ m. NoneStands (ClientStands (view json.now))) }
+    ensures violation { IfErr result (λ e. (why : Why) → e ≡ MsgFail.Violation why → ClientViolates (view json.now) why) }
+    ensures declined { IfErr result (λ e. (id : ℤ) (d : Decline) → e ≡ MsgFail.Declined id d → ClientDeclines (view json.now) id d) }
+{
+    let Some(request_id) = int32_member(json, "request_id") else {
+        return Err(MsgFail::Violation(Why::BadRequestId));
+    };
+    match request_of_json(alloc, member(json, "request", &Json::Null)) {
+        Ok(request) => Ok(ClientMsg::Request {
+            request_id,
+            request,
+        }),
+        Err(ReadFail::Declined(decline)) => Err(MsgFail::Declined {
+            request_id,
+            decline,
+        }),
+        Err(ReadFail::NoMemory) => Err(MsgFail::NoMemory),
+    }
+}
+
+fn client_of_json(alloc: Global, json: &Json) -> Result<ClientMsg, MsgFail>
+    ensures ok { IfOk result (λ m. ClientTree m (view json.now)) }
+    ensures undeclined { IfOk result (λ m. NoneStands (ClientStands (view json.now))) }
+    ensures violation { IfErr result (λ e. (why : Why) → e ≡ MsgFail.Violation why → ClientViolates (view json.now) why) }
+    ensures declined { IfErr result (λ e. (id : ℤ) (d : Decline) → e ≡ MsgFail.Declined id d → ClientDeclines (view json.now) id d) }
+{
+    if !json.is_object() {
+        return Err(MsgFail::Violation(Why::NotObject));
+    }
+    let Some(kind) = text_member(json, "type") else {
+        return Err(MsgFail::Violation(Why::NoKind));
+    };
+    if kind == "hello" {
+        return hello_of_json(alloc, json);
+    }
+    if kind == "request" {
+        return numbered_of_json(alloc, json);
+    }
+    Err(MsgFail::Violation(Why::UnknownKind))
+}
+
+/// The message of a client that the bytes of a text are.
+pub fn decode_client(alloc: Global, bytes: &[u8]) -> Result<ClientMsg, MsgFail>
+    ensures ok { IfOk result (IsClientText bytes.now) }
+    ensures violation { IfErr result (λ e. (why : Why) → e ≡ MsgFail.Violation why → BreaksAsClient bytes.now why) }
+    ensures declined { IfErr result (λ e. (id : ℤ) (d : Decline) → e ≡ MsgFail.Declined id d → IsDeclinedRequest bytes.now id d) }
+{
+    match Json::from_slice(alloc, bytes) {
+        Ok(json) => client_of_json(alloc, &json),
+        Err(error) => {
+            if error.is_memory() {
+                Err(MsgFail::NoMemory)
+            } else {
+                Err(MsgFail::Violation(Why::NotJson))
+            }
+        }
+    }
+}
