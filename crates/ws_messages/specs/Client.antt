@@ -1,5 +1,5 @@
 -- Which texts are messages of a client, which break the protocol, and which are declined.
-use Rattle.std.specs.Prelude.{◌≡◌, ◌⊎◌, ℕ, ℤ, List, Option, None, Some, codes, IsUtf8}
+use Rattle.std.specs.Prelude.{◌≡◌, ◌⊎◌, ◌↔◌, ℕ, ℤ, List, Option, None, Some, Result, Ok, Err, codes, IsUtf8}
 use Rattle.serde_json.specs.Data.{Data, null}
 use Rattle.serde_json.specs.Find.{as_object, as_str}
 use Rattle.serde_json.specs.Read.{read}
@@ -9,6 +9,8 @@ use Rattle.hrana_value.specs.Members.{HasText, HasInt32, text_at, part_at, TextT
 use Rattle.hrana_value.specs.Trees.{OptionalTree}
 use Rattle.ws_messages.specs.declared.messages.ClientMsg.{ClientMsg}
 use Rattle.ws_messages.specs.declared.messages.ClientMsg.TheVariants.{Hello, Request}
+use Rattle.ws_messages.specs.declared.messages.MsgFail.{MsgFail}
+use Rattle.ws_messages.specs.declared.messages.MsgFail.TheVariants.{Violation, Declined}
 use Rattle.ws_messages.specs.declared.messages.Why.{Why}
 use Rattle.ws_messages.specs.declared.messages.Why.TheVariants.{NotJson, NotObject, NoKind, UnknownKind, BadHello, BadRequestId, BadReply}
 use Rattle.ws_messages.specs.Requests.{RequestTree, RequestStands, RequestFits}
@@ -71,3 +73,23 @@ IsNoJson bytes = IsUtf8 bytes → read bytes ≡ None
 -- how the bytes break the protocol
 abbrev pub BreaksAsClient : List ℕ → Why → Type 0
 BreaksAsClient bytes why = ((why ≡ NotJson) × IsNoJson bytes) ⊎ ((t : Data) × IsJson bytes t × ClientViolates t why)
+
+-- ---- laws
+
+-- a tree is the form of at most one message
+abbrev pub NoTreeIsTwoClientMessages : Type 0
+NoTreeIsTwoClientMessages = (t : Data) (m n : ClientMsg) → ClientTree m t → ClientTree n t → m ≡ n
+
+-- nothing is declined in the form of a message exactly where the message fits
+abbrev pub FittingClientMessagesAreRead : Type 0
+FittingClientMessagesAreRead = (m : ClientMsg) (t : Data) → ClientTree m t → ClientFits m ↔ NoneStands (ClientStands t)
+
+-- what can be said of bytes: that they are a message, that they break the protocol, or that they are declined
+pub data ClientAnswer (bytes : List ℕ) : Result ClientMsg MsgFail → Type 0 where
+  is_message : (m : ClientMsg) → IsClientText bytes m → ClientAnswer bytes (Ok m)
+  breaks : (why : Why) → BreaksAsClient bytes why → ClientAnswer bytes (Err (Violation why))
+  is_declined : (id : ℤ) (d : Decline) → IsDeclinedRequest bytes id d → ClientAnswer bytes (Err (Declined id d))
+
+-- of any bytes one such thing can be said at most
+abbrev pub NoTextHasTwoClientAnswers : Type 0
+NoTextHasTwoClientAnswers = (bytes : List ℕ) (a b : Result ClientMsg MsgFail) → ClientAnswer bytes a → ClientAnswer bytes b → a ≡ b
