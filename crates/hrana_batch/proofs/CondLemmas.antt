@@ -1,0 +1,123 @@
+-- A condition, level by level.
+use Rattle.std.proofs.Common.{◌≡◌, ℕ, zero, suc, ◌<◌, ◌≤◌, max, List, [], ◌∷◌, Bool, true, false, ◌&&◌, ◌||◌, rules, not, map, length, get_or, ◌++◌, ◌+◌, take, arith, sym, ◌∙◌, refl, ap}
+use Rattle.std.proofs.lemmas.List.{take_more, map-append}
+use Rattle.std.specs.Prelude.{slice_get, nat_lt}
+use Rattle.std.specs.List.{list_all, list_any}
+use Rattle.hrana_batch.specs.Conditions.{holds_on, names_below, is_done, is_failed, depth_of, greatest}
+use Rattle.hrana_batch.specs.declared.conditions.Cond.{Cond, the_lemmas}
+use Rattle.hrana_batch.specs.declared.conditions.Cond.TheVariants.{StepOk, StepError, Not, All, Any, Autocommit}
+use Rattle.hrana_batch.specs.declared.outcomes.Outcome.{Outcome}
+
+module _ (outcomes : List Outcome) (auto : Bool) where
+  pub holds-StepOk : (n : ℕ) → holds_on outcomes auto (StepOk n) ≡ is_done (slice_get outcomes n)
+  holds-StepOk n = search (rules, the_lemmas)
+
+  pub holds-StepError : (n : ℕ) → holds_on outcomes auto (StepError n) ≡ is_failed (slice_get outcomes n)
+  holds-StepError n = search (rules, the_lemmas)
+
+  pub holds-Not : (c : Cond) → holds_on outcomes auto (Not c) ≡ not (holds_on outcomes auto c)
+  holds-Not c = search (rules, the_lemmas)
+
+  pub holds-All : (cs : List Cond) → holds_on outcomes auto (All cs) ≡ list_all (λ b. b) (map (holds_on outcomes auto) cs)
+  holds-All cs = search (rules, the_lemmas)
+
+  pub holds-Any : (cs : List Cond) → holds_on outcomes auto (Any cs) ≡ list_any (λ b. b) (map (holds_on outcomes auto) cs)
+  holds-Any cs = search (rules, the_lemmas)
+
+pub names-StepOk : (n step : ℕ) → names_below n (StepOk step) ≡ nat_lt step n
+names-StepOk n step = search (rules, the_lemmas)
+
+pub names-StepError : (n step : ℕ) → names_below n (StepError step) ≡ nat_lt step n
+names-StepError n step = search (rules, the_lemmas)
+
+pub names-Not : (n : ℕ) (c : Cond) → names_below n (Not c) ≡ names_below n c
+names-Not n c = search (rules, the_lemmas)
+
+pub names-All : (n : ℕ) (cs : List Cond) → names_below n (All cs) ≡ list_all (λ b. b) (map (names_below n) cs)
+names-All n cs = search (rules, the_lemmas)
+
+pub names-Any : (n : ℕ) (cs : List Cond) → names_below n (Any cs) ≡ list_all (λ b. b) (map (names_below n) cs)
+names-Any n cs = search (rules, the_lemmas)
+
+pub names-Autocommit : (n : ℕ) → names_below n Autocommit ≡ true
+names-Autocommit n = search (rules, the_lemmas)
+
+pub depth-StepOk : (n : ℕ) → depth_of (StepOk n) ≡ 1
+depth-StepOk n = search (rules, the_lemmas)
+
+pub depth-StepError : (n : ℕ) → depth_of (StepError n) ≡ 1
+depth-StepError n = search (rules, the_lemmas)
+
+pub depth-Not : (c : Cond) → depth_of (Not c) ≡ suc (depth_of c)
+depth-Not c = search (rules, the_lemmas)
+
+pub depth-All : (cs : List Cond) → depth_of (All cs) ≡ suc (greatest (map depth_of cs))
+depth-All cs = search (rules, the_lemmas)
+
+pub depth-Any : (cs : List Cond) → depth_of (Any cs) ≡ suc (greatest (map depth_of cs))
+depth-Any cs = search (rules, the_lemmas)
+
+pub depth-Autocommit : depth_of Autocommit ≡ 1
+depth-Autocommit = search (rules, the_lemmas)
+
+-- ---- lists of parts
+
+both : (a : Bool) → (a && false) ≡ false
+both true = refl
+both false = refl
+
+either : (a : Bool) → (a || true) ≡ true
+either true = refl
+either false = refl
+
+left_true : (a b : Bool) → (a && b) ≡ true → a ≡ true
+left_true true b h = refl
+left_true false b h = h
+
+right_true : (a b : Bool) → (a && b) ≡ true → b ≡ true
+right_true true b h = h
+right_true false b h = cc h
+
+pub all_false : (f : Cond → Bool) (cs : List Cond) (i : ℕ) (c : Cond) → i < length cs → c ≡ get_or cs i c → f c ≡ false → list_all (λ b. b) (map f cs) ≡ false
+all_false f [] i c h e p = absurd (omega arith)
+all_false f (d ∷ cs) zero c h e p = rw (← e, p)
+all_false f (d ∷ cs) (suc i) c h e p = let q = all_false f cs i c (omega arith) e p in rw q (both (f d))
+
+pub any_true : (f : Cond → Bool) (cs : List Cond) (i : ℕ) (c : Cond) → i < length cs → c ≡ get_or cs i c → f c ≡ true → list_any (λ b. b) (map f cs) ≡ true
+any_true f [] i c h e p = absurd (omega arith)
+any_true f (d ∷ cs) zero c h e p = rw (← e, p)
+any_true f (d ∷ cs) (suc i) c h e p = let q = any_true f cs i c (omega arith) e p in rw q (either (f d))
+
+pub each_true : (f : Cond → Bool) (cs : List Cond) (i : ℕ) (c : Cond) → i < length cs → c ≡ get_or cs i c → list_all (λ b. b) (map f cs) ≡ true → f c ≡ true
+each_true f [] i c h e p = absurd (omega arith)
+each_true f (d ∷ cs) zero c h e p = ap f e ∙ left_true (f d) (list_all (λ b. b) (map f cs)) p
+each_true f (d ∷ cs) (suc i) c h e p = each_true f cs i c (omega arith) e (right_true (f d) (list_all (λ b. b) (map f cs)) p)
+
+list_all-append : (xs ys : List Bool) → list_all (λ b. b) xs ≡ true → list_all (λ b. b) ys ≡ true → list_all (λ b. b) (xs ++ ys) ≡ true
+list_all-append [] ys p q = q
+list_all-append (x ∷ xs) ys p q = rw (left_true x (list_all (λ b. b) xs) p, list_all-append xs ys (right_true x (list_all (λ b. b) xs) p) q) refl
+
+-- one part more
+pub all_more : (f : Cond → Bool) (cs : List Cond) (i : ℕ) (c : Cond) → i < length cs → c ≡ get_or cs i c → list_all (λ b. b) (map f (take i cs)) ≡ true → f c ≡ true
+    → list_all (λ b. b) (map f (take (i + 1) cs)) ≡ true
+all_more f cs i c h e p q =
+    let same : take (i + 1) cs ≡ take i cs ++ c ∷ [] = take_more cs i c h ∙ ap (λ k. take i cs ++ k ∷ []) (sym e) in
+    rw (same, map-append f (take i cs) (c ∷ [])) (list_all-append (map f (take i cs)) (map f (c ∷ [])) p (rw q refl))
+
+-- ---- the deepest part
+
+pub greatest_item : (cs : List Cond) (i : ℕ) (c : Cond) → i < length cs → c ≡ get_or cs i c → depth_of c ≤ greatest (map depth_of cs)
+greatest_item [] i c h e = absurd (omega arith)
+greatest_item (d ∷ cs) zero c h e = omega (arith, ap depth_of e)
+greatest_item (d ∷ cs) (suc i) c h e = omega (arith, greatest_item cs i c (omega arith) e)
+
+greatest-append : (xs ys : List ℕ) → greatest (xs ++ ys) ≡ max (greatest xs) (greatest ys)
+greatest-append [] ys = omega arith
+greatest-append (x ∷ xs) ys = omega (arith, greatest-append xs ys)
+
+pub greatest_more : (cs : List Cond) (i : ℕ) (c : Cond) (n : ℕ) → i < length cs → c ≡ get_or cs i c → greatest (map depth_of (take i cs)) ≤ n → depth_of c ≤ n → greatest (map depth_of (take (i + 1) cs)) ≤ n
+greatest_more cs i c n h e p q =
+    let same : take (i + 1) cs ≡ take i cs ++ c ∷ [] = take_more cs i c h ∙ ap (λ k. take i cs ++ k ∷ []) (sym e) in
+    let parts : greatest (map depth_of (take (i + 1) cs)) ≡ max (greatest (map depth_of (take i cs))) (greatest (map depth_of (c ∷ []))) =
+    ap (λ l. greatest (map depth_of l)) same ∙ ap greatest (map-append depth_of (take i cs) (c ∷ [])) ∙ greatest-append (map depth_of (take i cs)) (map depth_of (c ∷ [])) in
+    omega (arith, parts)

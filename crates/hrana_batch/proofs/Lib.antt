@@ -1,0 +1,14 @@
+pub mod BatchReadings
+pub mod BatchWritten
+pub mod CondLaws
+pub mod CondLemmas
+pub mod CondReadings
+pub mod CondWritten
+pub mod DepthLemmas
+pub mod FitsLemmas
+pub mod MeansLemmas
+pub mod OutcomeLaws
+pub mod OutcomeReadings
+pub mod ShapeLemmas
+pub mod SizeLemmas
+pub mod WithinLemmas

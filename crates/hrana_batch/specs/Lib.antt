@@ -1,0 +1,6 @@
+pub mod Conditions
+pub mod Means
+pub mod Parts
+pub mod Progress
+pub mod Tree
+pub mod Written

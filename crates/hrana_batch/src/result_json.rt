@@ -1,0 +1,221 @@
+// Results of batches from JSON trees and back.
+ghost use Rattle.std.specs.Prelude.{◌≡◌, length, map, IfOk};
+ghost use Rattle.serde_json.specs.Data.{array};
+ghost use Rattle.serde_json.specs.View.{view, items_view, items_of};
+ghost use Rattle.hrana_value.specs.Declines.{Reads};
+ghost use Rattle.hrana_value.specs.Trees.{ArrayTree};
+ghost use Rattle.hrana_batch.specs.Tree.{ResultEntryTree, ErrorEntryTree, BatchResultTree, BatchResultStands, NoTreeIsTwoBatchResults, BatchResultsAreRead};
+ghost use Rattle.hrana_batch.specs.Parts.{OutcomeTree, EntriesStand, OutcomesTree, OutcomesStand, OutcomePartsTree, OutcomePartsStand};
+ghost use Rattle.hrana_batch.specs.Written.{result_entry, error_entry, batch_result_object, batch_result_data};
+
+use crate::{BatchResult, Outcome, Outcomes};
+use hrana_stmt::{error_of_json, error_to_json, result_of_json, result_to_json};
+use hrana_value::{Decline, NoMemory, ReadFail, member, with_item};
+use serde_json::{Map, Value as Json, put};
+use std::alloc::Global;
+
+// The outcome of a step from its entries in `step_results` and `step_errors`.
+fn outcome_of_entries(alloc: Global, done: &Json, failed: &Json) -> Result<Outcome, ReadFail>
+    ensures { Reads (λ o. OutcomeTree o (view done.now) (view failed.now)) (EntriesStand (view done.now) (view failed.now)) result }
+{
+    if done.is_null() {
+        if failed.is_null() {
+            return Ok(Outcome::Skipped);
+        }
+        match error_of_json(alloc, failed) {
+            Ok(error) => Ok(Outcome::Failed(error)),
+            Err(fail) => Err(fail),
+        }
+    } else if failed.is_null() {
+        match result_of_json(alloc, done) {
+            Ok(given) => Ok(Outcome::Done(given)),
+            Err(fail) => Err(fail),
+        }
+    } else {
+        Err(ReadFail::Declined(Decline::Shape))
+    }
+}
+
+fn outcomes_of_items(alloc: Global, results: &[Json], errors: &[Json]) -> Result<Outcomes, ReadFail>
+    requires { length results.now ≡ length errors.now }
+    ensures { Reads (λ os. OutcomesTree os (items_view results.now) (items_view errors.now)) (OutcomesStand (items_view results.now) (items_view errors.now)) result }
+{
+    let mut outcomes = Ok(Vec::new(alloc));
+    for i in 0..results.len() {
+        outcomes = with_item(outcomes, outcome_of_entries(alloc, &results[i], &errors[i]));
+    }
+    match outcomes {
+        Ok(outcomes) => Ok(Outcomes::from_vec(outcomes)),
+        Err(fail) => Err(fail),
+    }
+}
+
+fn outcomes_of_lists(alloc: Global, results: &[Json], errors: &[Json]) -> Result<Outcomes, ReadFail>
+    ensures { Reads (λ os. OutcomePartsTree os (array (items_view results.now)) (array (items_view errors.now))) (OutcomePartsStand (array (items_view results.now)) (array (items_view errors.now))) result }
+{
+    if results.len() == errors.len() {
+        outcomes_of_items(alloc, results, errors)
+    } else {
+        Err(ReadFail::Declined(Decline::Shape))
+    }
+}
+
+fn outcomes_of_parts(alloc: Global, results: &Json, errors: &Json) -> Result<Outcomes, ReadFail>
+    ensures { Reads (λ os. OutcomePartsTree os (view results.now) (view errors.now)) (OutcomePartsStand (view results.now) (view errors.now)) result }
+{
+    let Some(results) = results.as_array() else {
+        return Err(ReadFail::Declined(Decline::Shape));
+    };
+    let Some(errors) = errors.as_array() else {
+        return Err(ReadFail::Declined(Decline::Shape));
+    };
+    outcomes_of_lists(alloc, results.as_slice(), errors.as_slice())
+}
+
+/// Reads the result of a batch: `step_results` and `step_errors`, of one length and with at most one of the two for a
+/// step. A step with neither was skipped.
+pub fn batch_result_of_json(alloc: Global, json: &Json) -> Result<BatchResult, ReadFail>
+    ensures { Reads (λ r. BatchResultTree r (view json.now)) (BatchResultStands (view json.now)) result }
+{
+    let null = Json::Null;
+    let results = member(json, "step_results", &null);
+    match outcomes_of_parts(alloc, results, member(json, "step_errors", &null)) {
+        Ok(outcomes) => Ok(BatchResult { outcomes }),
+        Err(fail) => Err(fail),
+    }
+}
+
+fn result_entry_to_json(alloc: Global, outcome: &Outcome) -> Result<Json, NoMemory>
+    ensures written { IfOk result (λ json. view json ≡ result_entry outcome.now) }
+    ensures reads_back { IfOk result (λ json. ResultEntryTree outcome.now (view json)) }
+{
+    match outcome {
+        Outcome::Done(given) => result_to_json(alloc, given),
+        Outcome::Failed(_) => Ok(Json::Null),
+        Outcome::Skipped => Ok(Json::Null),
+    }
+}
+
+fn error_entry_to_json(alloc: Global, outcome: &Outcome) -> Result<Json, NoMemory>
+    ensures written { IfOk result (λ json. view json ≡ error_entry outcome.now) }
+    ensures reads_back { IfOk result (λ json. ErrorEntryTree outcome.now (view json)) }
+{
+    match outcome {
+        Outcome::Failed(error) => error_to_json(alloc, error),
+        Outcome::Done(_) => Ok(Json::Null),
+        Outcome::Skipped => Ok(Json::Null),
+    }
+}
+
+fn results_to_json(alloc: Global, outcomes: &[Outcome]) -> Result<Json, NoMemory>
+    ensures written { IfOk result (λ json. view json ≡ array (items_of (map result_entry outcomes.now))) }
+    ensures reads_back { IfOk result (λ json. ArrayTree ResultEntryTree outcomes.now (view json)) }
+{
+    let mut items = Vec::new(alloc);
+    for outcome in outcomes {
+        items.push(result_entry_to_json(alloc, outcome)?)?;
+    }
+    Ok(Json::Array(items))
+}
+
+fn errors_to_json(alloc: Global, outcomes: &[Outcome]) -> Result<Json, NoMemory>
+    ensures written { IfOk result (λ json. view json ≡ array (items_of (map error_entry outcomes.now))) }
+    ensures reads_back { IfOk result (λ json. ArrayTree ErrorEntryTree outcomes.now (view json)) }
+{
+    let mut items = Vec::new(alloc);
+    for outcome in outcomes {
+        items.push(error_entry_to_json(alloc, outcome)?)?;
+    }
+    Ok(Json::Array(items))
+}
+
+fn batch_result_members(alloc: Global, errors: Json, results: Json) -> Result<Json, NoMemory>
+    ensures { IfOk result (λ json. view json ≡ batch_result_object (view errors) (view results)) }
+{
+    let mut members = Map::new(alloc);
+    put(&mut members, alloc, "step_errors", errors)?;
+    put(&mut members, alloc, "step_results", results)?;
+    Ok(Json::Object(members))
+}
+
+/// Writes the result of a batch with its members in byte order. What a step lacks is null.
+pub fn batch_result_to_json(alloc: Global, given: &BatchResult) -> Result<Json, NoMemory>
+    ensures written { IfOk result (λ json. view json ≡ batch_result_data given.now) }
+    ensures reads_back { IfOk result (λ json. BatchResultTree given.now (view json)) }
+{
+    let errors = errors_to_json(alloc, given.outcomes.as_slice())?;
+    let results = results_to_json(alloc, given.outcomes.as_slice())?;
+    batch_result_members(alloc, errors, results)
+}
+
+/// A JSON tree is the form of at most one result of a batch.
+pub fn no_tree_is_two_batch_results()
+    ensures { NoTreeIsTwoBatchResults }
+{}
+
+/// Nothing is declined in the form of a result of a batch.
+pub fn batch_results_are_read()
+    ensures { BatchResultsAreRead }
+{}
+
+#[cfg(test)]
+mod tests {
+    use super::*;
+
+    fn read(alloc: Global, text: &str) -> Result<BatchResult, ReadFail> {
+        match Json::from_str(alloc, text) {
+            Ok(json) => batch_result_of_json(alloc, &json),
+            Err(_) => Err(ReadFail::NoMemory),
+        }
+    }
+
+    #[test]
+    fn results_are_written_as_they_were_read(rt: HostRuntime) {
+        let cases = [
+            r#"{"step_errors":[],"step_results":[]}"#,
+            r#"{"step_errors":[null],"step_results":[null]}"#,
+            r#"{"step_errors":[null,{"code":"CONSTRAINT","message":"primary key constraint failed"},null],"step_results":[{"affected_row_count":1,"cols":[],"last_insert_rowid":"1","rows":[]},null,null]}"#,
+        ];
+        let alloc = rt.alloc();
+        for text in cases {
+            match read(alloc, text) {
+                Ok(given) => {
+                    let json = batch_result_to_json(alloc, &given).expect(&rt, "there is memory");
+                    let written = json.to_string(alloc).expect(&rt, "there is memory");
+                    assert_eq!(rt; written.as_str(), text);
+                }
+                Err(_) => assert!(rt; false, "at {text}"),
+            }
+        }
+    }
+
+    #[test]
+    fn others_are_declined(rt: HostRuntime) {
+        let cases = [
+            ("[]", Decline::Shape),
+            (r#"{"step_results":[]}"#, Decline::Shape),
+            (
+                r#"{"step_errors":[],"step_results":[null]}"#,
+                Decline::Shape,
+            ),
+            (
+                r#"{"step_errors":[{"message":"x"}],"step_results":[{"affected_row_count":0,"cols":[],"rows":[]}]}"#,
+                Decline::Shape,
+            ),
+            (
+                r#"{"step_errors":[5],"step_results":[null]}"#,
+                Decline::Shape,
+            ),
+            (
+                r#"{"step_errors":[null,null],"step_results":[{"affected_row_count":0,"cols":[],"rows":[[{"type":"float"}]]},{"affected_row_count":-1,"cols":[],"rows":[]}]}"#,
+                Decline::Range,
+            ),
+        ];
+        for (text, want) in cases {
+            match read(rt.alloc(), text) {
+                Ok(_) => assert!(rt; false, "at {text}"),
+                Err(fail) => assert_eq!(rt; fail, ReadFail::Declined(want), "at {text}"),
+            }
+        }
+    }
+}
