@@ -27,9 +27,9 @@ int32_one t y z p q = one _ _ _ p.is q.is
 
 pub AskMembers-one : NoTreeIsTwoBatches → NoMembersAreTwoAsks
 AskMembers-one batches t (Execute stmt) (Execute stmt') e p q = ap Execute (StmtTree-one _ stmt stmt' p q)
-AskMembers-one batches t (Batch batch) (Batch batch') e p q = ap Batch (batches _ batch batch' p q)
+AskMembers-one batches t (Batch batch) (Batch batch') e p q = ap Batch (batches (part_at (codes "batch") t) batch batch' p q)
 AskMembers-one batches t (Sequence sql) (Sequence sql') e p q = ap Sequence (SqlTree-one t sql sql' p q)
-AskMembers-one batches t (Cursor batch) (Cursor batch') e p q = ap Cursor (batches _ batch batch' p q)
+AskMembers-one batches t (Cursor batch) (Cursor batch') e p q = ap Cursor (batches (part_at (codes "batch") t) batch batch' p q)
 AskMembers-one batches t (Fetch count) (Fetch count') e p q = ap Fetch (uint32_one _ count count' p q)
 AskMembers-one batches t CloseCursor CloseCursor e p q = refl
 AskMembers-one batches t GetAutocommit GetAutocommit e p q = refl
@@ -57,9 +57,9 @@ stored_fits s t is none = elim (cases_lt 65536 (length s)) [
 
 pub AskMembers-fits : FittingBatchesAreRead → FittingAsksAreRead
 AskMembers-fits batches (Execute stmt) t p = StmtTree-fits stmt _ p
-AskMembers-fits batches (Batch batch) t p = batches batch _ p
+AskMembers-fits batches (Batch batch) t p = batches batch (part_at (codes "batch") t) p
 AskMembers-fits batches (Sequence sql) t p = (sql_none sql t p, sql_fits sql t p)
-AskMembers-fits batches (Cursor batch) t p = batches batch _ p
+AskMembers-fits batches (Cursor batch) t p = batches batch (part_at (codes "batch") t) p
 AskMembers-fits batches (Fetch count) t p = (λ _. uint32_none count _ p, λ _. tt)
 AskMembers-fits batches CloseCursor t p = (λ _ k here. here, λ _. tt)
 AskMembers-fits batches GetAutocommit t p = (λ _ k here. here, λ _. tt)

@@ -25,7 +25,7 @@ pub ReplyMembers-one : NoTreeIsTwoBatchResults → NoMembersAreTwoReplies
 ReplyMembers-one results t k StreamOpened s p q = cc p.answers
 ReplyMembers-one results t k (Failed e) s p q = cc p.answers
 ReplyMembers-one results t k (Execute r) (Execute s) p q = ap Execute (StmtResultTree-one _ r s p.members q.members)
-ReplyMembers-one results t k (Batch r) (Batch s) p q = ap Batch (results _ r s p.members q.members)
+ReplyMembers-one results t k (Batch r) (Batch s) p q = ap Batch (results (part_at (codes "result") t) r s p.members q.members)
 ReplyMembers-one results t k Sequence Sequence p q = refl
 ReplyMembers-one results t k Cursor Cursor p q = refl
 ReplyMembers-one results t k (Fetched entries done) (Fetched entries' done') p q =
@@ -51,7 +51,7 @@ none_of t j k e none = subst (λ i. NoneStands (ReplyMembersStand i t)) (same_ki
 members_none : BatchResultsAreRead → (t : Data) (k : AskKind) (r : Reply) → answered_kind r ≡ Some k → ReplyMembers r t → NoneStands (ReplyMembersStand k t)
 members_none results t k StreamOpened e p = cc e
 members_none results t k (Execute r) e p = none_of t kind.Execute k e (StmtResultTree-none r _ p)
-members_none results t k (Batch r) e p = none_of t kind.Batch k e (results r _ p)
+members_none results t k (Batch r) e p = none_of t kind.Batch k e (results r (part_at (codes "result") t) p)
 members_none results t k Sequence e p = none_of t kind.Sequence k e (λ d here. here)
 members_none results t k Cursor e p = none_of t kind.Cursor k e (λ d here. here)
 members_none results t k (Fetched entries done) e p =

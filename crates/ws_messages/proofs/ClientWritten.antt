@@ -18,6 +18,7 @@ use Rattle.stream_requests.specs.Asks.{ask_kind, AskMembers, AskFits, AskReadsBa
 use Rattle.stream_requests.proofs.Puts.{members_have_float-put, members_depth-put}
 use Rattle.stream_requests.proofs.NoFloats.{has_float-integer}
 use Rattle.stream_requests.proofs.Depths.{depth-stmt_data, depth-optional_text}
+use Rattle.hrana_batch.specs.Written.{batch_data}
 use Rattle.stream_requests.proofs.BatchFacts.{has_float-batch_data, depth-batch_data}
 use Rattle.ws_messages.specs.declared.messages.WsRequest.{WsRequest}
 use Rattle.ws_messages.specs.declared.messages.WsRequest.TheVariants.{OpenStream, OnStream, OpenCursor, CloseCursor, FetchCursor, StoreSql, CloseSql}
@@ -93,10 +94,10 @@ client_back (Request id r) fits h = (refl, int32_back id h.0, request_back r (fo
 
 floats_put_ask : (a : Ask) (ms : Members) → AskReadsBack a → members_have_float ms ≡ false → members_have_float (put_ask a ms) ≡ false
 floats_put_ask (Execute stmt) ms h q = members_have_float-put _ _ ms (has_float-stmt_data stmt) q
-floats_put_ask (Batch batch) ms h q = members_have_float-put _ _ ms (has_float-batch_data batch _ h) q
+floats_put_ask (Batch batch) ms h q = members_have_float-put _ _ ms (has_float-batch_data batch (batch_data batch) h) q
 floats_put_ask (Sequence (sql.Text s)) ms h q = members_have_float-put _ _ ms refl q
 floats_put_ask (Sequence (sql.Id z)) ms h q = members_have_float-put _ _ ms (has_float-integer z) q
-floats_put_ask (Cursor batch) ms h q = members_have_float-put _ _ ms (has_float-batch_data batch _ h) q
+floats_put_ask (Cursor batch) ms h q = members_have_float-put _ _ ms (has_float-batch_data batch (batch_data batch) h) q
 floats_put_ask (Fetch count) ms h q = members_have_float-put _ _ ms refl q
 floats_put_ask ask.CloseCursor ms h q = q
 floats_put_ask GetAutocommit ms h q = q
@@ -112,7 +113,7 @@ floats_request : (r : WsRequest) → RequestReadsBack r → has_float (request_d
 floats_request (OpenStream stream) h = floats_on_stream stream kind.OpenStream
 floats_request (OnStream stream a) h = floats_put_ask a (on_stream stream (kind_of (ask_kind a))) h.1 (floats_on_stream stream (kind_of (ask_kind a)))
 floats_request (OpenCursor stream cursor batch) h =
-    neither _ _ (has_float-batch_data batch _ h.1) (neither _ _ (has_float-integer cursor) (floats_on_stream stream kind.OpenCursor))
+    neither _ _ (has_float-batch_data batch (batch_data batch) h.1) (neither _ _ (has_float-integer cursor) (floats_on_stream stream kind.OpenCursor))
 floats_request (CloseCursor cursor) h = neither _ _ (has_float-integer cursor) refl
 floats_request (FetchCursor cursor count) h = neither _ _ (has_float-integer cursor) refl
 floats_request (StoreSql id text) h = neither _ _ refl (neither _ _ (has_float-integer id) refl)
@@ -126,10 +127,10 @@ has_float-client_data (Request id r) h = neither _ _ (floats_request r h.1) (nei
 
 depth_put_ask : (a : Ask) (ms : Members) → AskReadsBack a → AskFits a → members_depth ms ≤ 70 → members_depth (put_ask a ms) ≤ 70
 depth_put_ask (Execute stmt) ms h fits q = members_depth-put _ _ ms 70 (omega (arith, depth-stmt_data stmt)) q
-depth_put_ask (Batch batch) ms h fits q = members_depth-put _ _ ms 70 (depth-batch_data batch _ h fits) q
+depth_put_ask (Batch batch) ms h fits q = members_depth-put _ _ ms 70 (depth-batch_data batch (batch_data batch) h fits) q
 depth_put_ask (Sequence (sql.Text s)) ms h fits q = members_depth-put _ _ ms 70 (omega arith) q
 depth_put_ask (Sequence (sql.Id z)) ms h fits q = members_depth-put _ _ ms 70 (omega arith) q
-depth_put_ask (Cursor batch) ms h fits q = members_depth-put _ _ ms 70 (depth-batch_data batch _ h fits) q
+depth_put_ask (Cursor batch) ms h fits q = members_depth-put _ _ ms 70 (depth-batch_data batch (batch_data batch) h fits) q
 depth_put_ask (Fetch count) ms h fits q = members_depth-put _ _ ms 70 (omega arith) q
 depth_put_ask ask.CloseCursor ms h fits q = q
 depth_put_ask GetAutocommit ms h fits q = q
@@ -141,7 +142,7 @@ depth_put_ask Close ms h fits q = q
 depth_request : (r : WsRequest) → RequestReadsBack r → RequestFits r → depth (request_data r) ≤ 71
 depth_request (OpenStream stream) h fits = omega arith
 depth_request (OnStream stream a) h fits = omega (arith, depth_put_ask a (on_stream stream (kind_of (ask_kind a))) h.1 fits.1 (omega arith))
-depth_request (OpenCursor stream cursor batch) h fits = omega (arith, depth-batch_data batch _ h.1 fits)
+depth_request (OpenCursor stream cursor batch) h fits = omega (arith, depth-batch_data batch (batch_data batch) h.1 fits)
 depth_request (CloseCursor cursor) h fits = omega arith
 depth_request (FetchCursor cursor count) h fits = omega arith
 depth_request (StoreSql id text) h fits = omega arith

@@ -45,7 +45,7 @@ RequestTree-one batches laws t r (OnStream stream b) p q = absurd (stream_only t
 RequestTree-one batches laws t (OpenStream stream) (OpenStream stream') p q = ap OpenStream (int32_one _ stream stream' p.members q.members)
 RequestTree-one batches laws t (OpenCursor stream cursor batch) (OpenCursor stream' cursor' batch') p q =
     ap (λ z. OpenCursor z cursor batch) (int32_one _ stream stream' p.members.0.0 q.members.0.0) ∙ ap (λ z. OpenCursor stream' z batch) (int32_one _ cursor cursor' p.members.0.1 q.members.0.1)
-    ∙ ap (OpenCursor stream' cursor') (batches _ batch batch' p.members.1 q.members.1)
+    ∙ ap (OpenCursor stream' cursor') (batches (part_at (codes "batch") t) batch batch' p.members.1 q.members.1)
 RequestTree-one batches laws t (CloseCursor cursor) (CloseCursor cursor') p q = ap CloseCursor (int32_one _ cursor cursor' p.members q.members)
 RequestTree-one batches laws t (FetchCursor cursor count) (FetchCursor cursor' count') p q =
     ap (λ z. FetchCursor z count) (int32_one _ cursor cursor' p.members.0 q.members.0) ∙ ap (FetchCursor cursor') (uint32_one _ count count' p.members.1 q.members.1)
@@ -86,7 +86,7 @@ members_none batches laws (OnStream stream a) t p fits =
     λ d here. NoneStands-parts (StreamStands t) (AskMembersStand (ask_kind a) t) (int32_none stream _ p.0) ((laws a t p.1).0 fits.1) d (to_stream (ask_kind a) t d fits.0 here)
 members_none batches laws (OpenCursor stream cursor batch) t p fits =
     NoneStands-parts (EitherStands (StreamStands t) (CursorStands t)) (BatchStands (part_at (codes "batch") t))
-    (NoneStands-parts (StreamStands t) (CursorStands t) (int32_none stream _ p.0.0) (int32_none cursor _ p.0.1)) ((batches batch _ p.1).0 fits)
+    (NoneStands-parts (StreamStands t) (CursorStands t) (int32_none stream _ p.0.0) (int32_none cursor _ p.0.1)) ((batches batch (part_at (codes "batch") t) p.1).0 fits)
 members_none batches laws (CloseCursor cursor) t p fits = int32_none cursor _ p
 members_none batches laws (FetchCursor cursor count) t p fits =
     NoneStands-parts (CursorStands t) (Uint32Stands (part_at (codes "max_count") t)) (int32_none cursor _ p.0) (uint32_none count _ p.1)
@@ -96,7 +96,7 @@ members_none batches laws (CloseSql id) t p fits = int32_none id _ p
 members_fit : FittingBatchesAreRead → FittingAsksAreRead → (r : WsRequest) (t : Data) → IsFormed r → RequestMembers r t → NoneStands (RequestMembersStand (request_kind r) t) → RequestFits r
 members_fit batches laws (OpenStream stream) t formed p none = tt
 members_fit batches laws (OnStream stream a) t formed p none = (formed, (laws a t p.1).1 (λ d here. none d (of_stream (ask_kind a) t d formed (inr here))))
-members_fit batches laws (OpenCursor stream cursor batch) t formed p none = (batches batch _ p.1).1 (λ d here. none d (inr here))
+members_fit batches laws (OpenCursor stream cursor batch) t formed p none = (batches batch (part_at (codes "batch") t) p.1).1 (λ d here. none d (inr here))
 members_fit batches laws (CloseCursor cursor) t formed p none = tt
 members_fit batches laws (FetchCursor cursor count) t formed p none = tt
 members_fit batches laws (StoreSql id sql) t formed p none = (laws (asks.StoreSql id sql) t p).1 none
