@@ -27,7 +27,7 @@ text_one t s r p q = one _ _ _ p q
 abbrev col : Option (List ℕ) → Col
 col name = record { name = name }
 
-ColTree-one : (t : Data) (a b : Col) → ColTree a t → ColTree b t → a ≡ b
+pub ColTree-one : (t : Data) (a b : Col) → ColTree a t → ColTree b t → a ≡ b
 ColTree-one t a b p q = ap col (OptionalTree-one TextTree text_one (part_at (codes "name") t) a.name b.name p.name q.name)
 
 RowTree-one : (t : Data) (a b : List Value) → RowTree a t → RowTree b t → a ≡ b
@@ -59,7 +59,7 @@ WireErrorTree-one t e f p q =
 
 -- ---- results and errors are read
 
-ColTree-none : (c : Col) (t : Data) → ColTree c t → NoneStands (ColStands t)
+pub ColTree-none : (c : Col) (t : Data) → ColTree c t → NoneStands (ColStands t)
 ColTree-none c t p =
     NoneStands-parts (ObjectStands t) (OptionalStands TextStands (part_at (codes "name") t)) (λ k here. here.1 p.is_object)
     (OptionalTree-none TextTree TextStands TextTree-none c.name (part_at (codes "name") t) p.name)

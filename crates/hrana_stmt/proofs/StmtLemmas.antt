@@ -24,7 +24,7 @@ use Rattle.hrana_stmt.proofs.ArgumentLemmas.{OptionalArrayTree-length}
 
 -- ---- a tree is one of at most one statement
 
-SqlTree-one : (t : Data) (s r : SqlRef) → SqlTree s t → SqlTree r t → s ≡ r
+pub SqlTree-one : (t : Data) (s r : SqlRef) → SqlTree s t → SqlTree r t → s ≡ r
 SqlTree-one t (Text s) (Text r) p q = ap Text (one _ _ _ p.0 q.0)
 SqlTree-one t (Text s) (Id z) p q = absurd (text_given (part_at (codes "sql") t) s p.0 q.1)
 SqlTree-one t (Id z) (Text s) p q = absurd (text_given (part_at (codes "sql") t) s q.0 p.1)
@@ -71,7 +71,7 @@ object_of_sql : (s : SqlRef) (t : Data) → SqlTree s t → IsObject t
 object_of_sql (Text s) t p = given_object (codes "sql") t (text_given (part_at (codes "sql") t) s p.0)
 object_of_sql (Id z) t p = given_object (codes "sql_id") t (id_given (part_at (codes "sql_id") t) z p.0.is)
 
-sql_none : (s : SqlRef) (t : Data) → SqlTree s t → IsWithinSqlLimit s → NoneStands (SqlStands t)
+pub sql_none : (s : SqlRef) (t : Data) → SqlTree s t → IsWithinSqlLimit s → NoneStands (SqlStands t)
 sql_none (Text s) t p fits = sql_text_none (part_at (codes "sql") t) (part_at (codes "sql_id") t) s p.0 p.1 fits
 sql_none (Id z) t p fits = sql_id_none (part_at (codes "sql") t) (part_at (codes "sql_id") t) z p.0 p.1
 
@@ -105,7 +105,7 @@ stmt_none s t p fits =
 
 -- ---- a statement of a tree in which nothing stands breaks no limit
 
-sql_fits : (s : SqlRef) (t : Data) → SqlTree s t → NoneStands (SqlStands t) → IsWithinSqlLimit s
+pub sql_fits : (s : SqlRef) (t : Data) → SqlTree s t → NoneStands (SqlStands t) → IsWithinSqlLimit s
 sql_fits (Text s) t p none = elim (cases_lt 65536 (length s)) [
   | inl long ↦ absurd (none Range (inl (subst (λ o. IsSomeAnd o (λ r. 65536 < length r)) (sym p.0) long)))
   | inr fits ↦ fits

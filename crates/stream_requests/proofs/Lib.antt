@@ -1,0 +1,10 @@
+pub mod AskLemmas
+pub mod BatchFacts
+pub mod Depths
+pub mod EntryLemmas
+pub mod EntryWritten
+pub mod NameLemmas
+pub mod NoFloats
+pub mod Puts
+pub mod Readings
+pub mod ReplyLemmas

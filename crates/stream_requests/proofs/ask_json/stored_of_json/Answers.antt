@@ -1,0 +1,6 @@
+use Rattle.serde_json.specs.View.{view}
+use Rattle.stream_requests.proofs.AskLemmas.{stored_read}
+use Rattle.stream_requests.proofs.ask_json.stored_of_json.Goals as goal
+
+pub returns : goal.returns
+returns c = stored_read (view c.args.json.now) (view c.member-id.result.now) (view c.member.result.now) c.stored_of_parts.result c.member-id.ensures c.member.ensures c.stored_of_parts.ensures

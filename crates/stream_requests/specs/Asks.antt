@@ -1,0 +1,119 @@
+-- Which members an ask may be written as, and which declines stand in members that should be those of an ask.
+use Rattle.std.specs.Prelude.{◌≡◌, ◌↔◌, ℕ, ◌≤◌, ◌<◌, ◌^◌, List, length, codes, IsSomeAnd, FitsSigned}
+use Rattle.std.specs.Int.{w32}
+use Rattle.serde_json.specs.Data.{Data, Members, number, unsigned, string, put}
+use Rattle.serde_json.specs.Find.{as_str, of_integer}
+use Rattle.hrana_value.specs.declared.failures.Decline.{Decline}
+use Rattle.hrana_value.specs.declared.failures.Decline.TheVariants.{Range}
+use Rattle.hrana_value.specs.Declines.{NoneStands, EitherStands, Only}
+use Rattle.hrana_value.specs.Members.{part_at, TextTree, TextStands, Int32Tree, Int32Stands, Uint32Tree, Uint32Stands}
+use Rattle.hrana_stmt.specs.Tree.{StmtTree, StmtStands, StmtFits, SqlTree, SqlStands, IsWithinSqlLimit}
+use Rattle.hrana_stmt.specs.Written.{stmt_data}
+use Rattle.hrana_stmt.specs.Puts.{put_sql, SqlIdFits}
+use Rattle.hrana_batch.specs.Tree.{BatchTree, BatchStands, BatchFits}
+use Rattle.hrana_batch.specs.Written.{batch_data}
+use Rattle.stream_requests.specs.declared.asks.Ask.{Ask}
+use Rattle.stream_requests.specs.declared.asks.Ask.TheVariants.{Execute, Batch, Sequence, Cursor, Fetch, CloseCursor, GetAutocommit, StoreSql, CloseSql, Close}
+use Rattle.stream_requests.specs.declared.asks.AskKind.{AskKind}
+use Rattle.stream_requests.specs.declared.asks.AskKind.TheVariants as kind
+
+abbrev pub ask_kind : Ask → AskKind
+ask_kind (Execute stmt) = kind.Execute
+ask_kind (Batch batch) = kind.Batch
+ask_kind (Sequence sql) = kind.Sequence
+ask_kind (Cursor batch) = kind.Cursor
+ask_kind (Fetch count) = kind.Fetch
+ask_kind CloseCursor = kind.CloseCursor
+ask_kind GetAutocommit = kind.GetAutocommit
+ask_kind (StoreSql id sql) = kind.StoreSql
+ask_kind (CloseSql id) = kind.CloseSql
+ask_kind Close = kind.Close
+
+-- the members of an ask besides its `type` and the ids of its stream and its cursor
+abbrev pub AskMembers : Ask → Data → Type 0
+AskMembers (Execute stmt) t = StmtTree stmt (part_at (codes "stmt") t)
+AskMembers (Batch batch) t = BatchTree batch (part_at (codes "batch") t)
+AskMembers (Sequence sql) t = SqlTree sql t
+AskMembers (Cursor batch) t = BatchTree batch (part_at (codes "batch") t)
+AskMembers (Fetch count) t = Uint32Tree count (part_at (codes "max_count") t)
+AskMembers CloseCursor t = Unit {0}
+AskMembers GetAutocommit t = Unit {0}
+AskMembers (StoreSql id sql) t = Int32Tree id (part_at (codes "sql_id") t) × TextTree sql (part_at (codes "sql") t)
+AskMembers (CloseSql id) t = Int32Tree id (part_at (codes "sql_id") t)
+AskMembers Close t = Unit {0}
+
+-- the ask is of this kind, and its members stand in the tree
+pub record IsAskOf (k : AskKind) (a : Ask) (t : Data) : Type 0 where
+  pub kind : ask_kind a ≡ k
+  pub members : AskMembers a t
+
+abbrev pub NothingStands : Decline → Type 0
+NothingStands d = ⊥
+
+-- a text that is to be stored has at most 65,536 bytes
+abbrev pub StoredTextStands : Data → Decline → Type 0
+StoredTextStands t = EitherStands (TextStands t) (Only Range (IsSomeAnd (as_str t) (λ s. 65536 < length s)))
+
+-- what stands in the members of an ask of this kind
+abbrev pub AskMembersStand : AskKind → Data → Decline → Type 0
+AskMembersStand kind.Execute t = StmtStands (part_at (codes "stmt") t)
+AskMembersStand kind.Batch t = BatchStands (part_at (codes "batch") t)
+AskMembersStand kind.Sequence t = SqlStands t
+AskMembersStand kind.Cursor t = BatchStands (part_at (codes "batch") t)
+AskMembersStand kind.Fetch t = Uint32Stands (part_at (codes "max_count") t)
+AskMembersStand kind.CloseCursor t = NothingStands
+AskMembersStand kind.GetAutocommit t = NothingStands
+AskMembersStand kind.StoreSql t = EitherStands (Int32Stands (part_at (codes "sql_id") t)) (StoredTextStands (part_at (codes "sql") t))
+AskMembersStand kind.CloseSql t = Int32Stands (part_at (codes "sql_id") t)
+AskMembersStand kind.Close t = NothingStands
+
+-- the ask breaks no limit, and the conditions of its batch name earlier steps
+abbrev pub AskFits : Ask → Type 0
+AskFits (Execute stmt) = StmtFits stmt
+AskFits (Batch batch) = BatchFits batch
+AskFits (Sequence sql) = IsWithinSqlLimit sql
+AskFits (Cursor batch) = BatchFits batch
+AskFits (Fetch count) = Unit {0}
+AskFits CloseCursor = Unit {0}
+AskFits GetAutocommit = Unit {0}
+AskFits (StoreSql id sql) = length sql ≤ 65536
+AskFits (CloseSql id) = Unit {0}
+AskFits Close = Unit {0}
+
+-- ---- what is written
+
+-- the members of an ask, put into an object
+abbrev pub put_ask : Ask → Members → Members
+put_ask (Execute stmt) ms = put (codes "stmt") (stmt_data stmt) ms
+put_ask (Batch batch) ms = put (codes "batch") (batch_data batch) ms
+put_ask (Sequence sql) ms = put_sql sql ms
+put_ask (Cursor batch) ms = put (codes "batch") (batch_data batch) ms
+put_ask (Fetch count) ms = put (codes "max_count") (number (unsigned count)) ms
+put_ask CloseCursor ms = ms
+put_ask GetAutocommit ms = ms
+put_ask (StoreSql id sql) ms = put (codes "sql_id") (number (of_integer id)) (put (codes "sql") (string sql) ms)
+put_ask (CloseSql id) ms = put (codes "sql_id") (number (of_integer id)) ms
+put_ask Close ms = ms
+
+-- what is put is a form of the ask
+abbrev pub AskReadsBack : Ask → Type 0
+AskReadsBack (Execute stmt) = StmtTree stmt (stmt_data stmt)
+AskReadsBack (Batch batch) = BatchTree batch (batch_data batch)
+AskReadsBack (Sequence sql) = SqlIdFits sql
+AskReadsBack (Cursor batch) = BatchTree batch (batch_data batch)
+AskReadsBack (Fetch count) = count < 2 ^ 32
+AskReadsBack CloseCursor = Unit {0}
+AskReadsBack GetAutocommit = Unit {0}
+AskReadsBack (StoreSql id sql) = FitsSigned w32 id
+AskReadsBack (CloseSql id) = FitsSigned w32 id
+AskReadsBack Close = Unit {0}
+
+-- ---- laws
+
+-- members are those of at most one ask of a kind
+abbrev pub NoMembersAreTwoAsks : Type 0
+NoMembersAreTwoAsks = (t : Data) (a b : Ask) → ask_kind a ≡ ask_kind b → AskMembers a t → AskMembers b t → a ≡ b
+
+-- nothing is declined in the members of an ask exactly where the ask breaks no limit
+abbrev pub FittingAsksAreRead : Type 0
+FittingAsksAreRead = (a : Ask) (t : Data) → AskMembers a t → AskFits a ↔ NoneStands (AskMembersStand (ask_kind a) t)

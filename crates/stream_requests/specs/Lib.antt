@@ -1,0 +1,5 @@
+pub mod Asks
+pub mod Entries
+pub mod EntryParts
+pub mod Replies
+pub mod WrittenEntries

@@ -1,0 +1,153 @@
+// The members of replies from JSON trees and back, which both transports share: all but `type`.
+ghost use Rattle.std.specs.Prelude.{OnOk, ◌≡◌};
+ghost use Rattle.serde_json.specs.View.{view, members_view};
+ghost use Rattle.hrana_value.specs.Declines.{Reads, EitherStands};
+ghost use Rattle.hrana_value.specs.Trees.{ArrayTree, ArrayStands};
+ghost use Rattle.stream_requests.specs.Entries.{EntryTree, EntryStands};
+ghost use Rattle.stream_requests.specs.Replies.{BooleanTree, BooleanStands, IsReplyTo, ReplyMembersStand, put_reply, ReplyReadsBack, NoMembersAreTwoReplies, RepliesAreRead};
+
+use crate::{AskKind, EntryList, Reply, entries_of_json, entries_to_json};
+use hrana_batch::{
+    batch_result_of_json, batch_result_to_json, batch_results_are_read,
+    no_tree_is_two_batch_results,
+};
+use hrana_stmt::{result_of_json, result_to_json};
+use hrana_value::{Decline, NoMemory, ReadFail, both, member};
+use serde_json::{Map, Value as Json, put};
+use std::alloc::Global;
+
+fn executed_of_json(alloc: Global, json: &Json) -> Result<Reply, ReadFail>
+    ensures { Reads (λ r. IsReplyTo AskKind.Execute r (view json.now)) (ReplyMembersStand AskKind.Execute (view json.now)) result }
+{
+    match result_of_json(alloc, member(json, "result", &Json::Null)) {
+        Ok(given) => Ok(Reply::Execute(given)),
+        Err(fail) => Err(fail),
+    }
+}
+
+fn batch_reply_of_json(alloc: Global, json: &Json) -> Result<Reply, ReadFail>
+    ensures { Reads (λ r. IsReplyTo AskKind.Batch r (view json.now)) (ReplyMembersStand AskKind.Batch (view json.now)) result }
+{
+    match batch_result_of_json(alloc, member(json, "result", &Json::Null)) {
+        Ok(given) => Ok(Reply::Batch(given)),
+        Err(fail) => Err(fail),
+    }
+}
+
+fn boolean_of_json(json: &Json) -> Result<bool, ReadFail>
+    ensures { Reads (λ b. BooleanTree b (view json.now)) (BooleanStands (view json.now)) result }
+{
+    match json.as_bool() {
+        Some(flag) => Ok(flag),
+        None => Err(ReadFail::Declined(Decline::Shape)),
+    }
+}
+
+fn fetched_of_parts(
+    alloc: Global,
+    entries: &Json,
+    done: &Json,
+) -> Result<(EntryList, bool), ReadFail>
+    ensures { Reads (λ read. ArrayTree EntryTree read.0 (view entries.now) × BooleanTree read.1 (view done.now)) (EitherStands (ArrayStands EntryStands (view entries.now)) (BooleanStands (view done.now))) result }
+{
+    let entries = entries_of_json(alloc, entries);
+    both(entries, boolean_of_json(done))
+}
+
+fn fetched_of_json(alloc: Global, json: &Json) -> Result<Reply, ReadFail>
+    ensures { Reads (λ r. IsReplyTo AskKind.Fetch r (view json.now)) (ReplyMembersStand AskKind.Fetch (view json.now)) result }
+{
+    let null = Json::Null;
+    let entries = member(json, "entries", &null);
+    match fetched_of_parts(alloc, entries, member(json, "done", &null)) {
+        Ok((entries, done)) => Ok(Reply::Fetched { entries, done }),
+        Err(fail) => Err(fail),
+    }
+}
+
+fn autocommit_of_json(json: &Json) -> Result<Reply, ReadFail>
+    ensures { Reads (λ r. IsReplyTo AskKind.GetAutocommit r (view json.now)) (ReplyMembersStand AskKind.GetAutocommit (view json.now)) result }
+{
+    match boolean_of_json(member(json, "is_autocommit", &Json::Null)) {
+        Ok(auto) => Ok(Reply::Autocommit(auto)),
+        Err(fail) => Err(fail),
+    }
+}
+
+/// Reads the members of a reply to asks of this kind.
+pub fn reply_of_json(alloc: Global, kind: AskKind, json: &Json) -> Result<Reply, ReadFail>
+    ensures { Reads (λ r. IsReplyTo kind r (view json.now)) (ReplyMembersStand kind (view json.now)) result }
+{
+    match kind {
+        AskKind::Execute => executed_of_json(alloc, json),
+        AskKind::Batch => batch_reply_of_json(alloc, json),
+        AskKind::Sequence => Ok(Reply::Sequence),
+        AskKind::Cursor => Ok(Reply::Cursor),
+        AskKind::Fetch => fetched_of_json(alloc, json),
+        AskKind::CloseCursor => Ok(Reply::CursorClosed),
+        AskKind::GetAutocommit => autocommit_of_json(json),
+        AskKind::StoreSql => Ok(Reply::SqlStored),
+        AskKind::CloseSql => Ok(Reply::SqlClosed),
+        AskKind::Close => Ok(Reply::Closed),
+    }
+}
+
+fn put_fetched(
+    members: &mut Map<String, Json>,
+    alloc: Global,
+    entries: &EntryList,
+    done: bool,
+) -> Result<(), NoMemory>
+    ensures put { OnOk result (members_view members.new.entries ≡ put_reply (Reply.Fetched entries.now done) (members_view members.old.entries)) }
+    ensures reads_back { OnOk result (ReplyReadsBack (Reply.Fetched entries.now done)) }
+{
+    let entries = entries_to_json(alloc, entries.as_slice())?;
+    put(members, alloc, "done", Json::Bool(done))?;
+    Ok(put(members, alloc, "entries", entries)?)
+}
+
+/// Puts the members of a reply into an object.
+pub fn put_reply(
+    members: &mut Map<String, Json>,
+    alloc: Global,
+    reply: &Reply,
+) -> Result<(), NoMemory>
+    ensures put { OnOk result (members_view members.new.entries ≡ put_reply reply.now (members_view members.old.entries)) }
+    ensures reads_back { OnOk result (ReplyReadsBack reply.now) }
+{
+    match reply {
+        Reply::Execute(given) => {
+            let given = result_to_json(alloc, given)?;
+            put(members, alloc, "result", given)?;
+        }
+        Reply::Batch(given) => {
+            let given = batch_result_to_json(alloc, given)?;
+            put(members, alloc, "result", given)?;
+        }
+        Reply::Fetched { entries, done } => put_fetched(members, alloc, entries, *done)?,
+        Reply::Autocommit(auto) => put(members, alloc, "is_autocommit", Json::Bool(*auto))?,
+        Reply::StreamOpened => {}
+        Reply::Sequence => {}
+        Reply::Cursor => {}
+        Reply::CursorClosed => {}
+        Reply::SqlStored => {}
+        Reply::SqlClosed => {}
+        Reply::Closed => {}
+        Reply::Failed(_) => {}
+    }
+    Ok(())
+}
+
+/// Members are those of at most one reply to asks of a kind.
+pub fn no_members_are_two_replies()
+    ensures { NoMembersAreTwoReplies }
+{
+    no_tree_is_two_batch_results();
+}
+
+/// Nothing is declined in the members of a reply.
+pub fn replies_are_read()
+    ensures { RepliesAreRead }
+{
+    batch_results_are_read();
+}

@@ -1,0 +1,21 @@
+//! Messages over a WebSocket: from the bytes of a text and back (HRANA_3_SPEC, "Messages").
+#![tactic(auto)]
+
+mod client;
+mod kinds;
+mod messages;
+mod request_json;
+mod request_written;
+mod response_json;
+mod server;
+
+pub use client::{
+    decode_client, encode_client, fitting_client_messages_are_read, no_text_has_two_client_answers,
+    no_tree_is_two_client_messages,
+};
+pub use kinds::{Kind, REQUEST_KINDS, kind_name, kind_of_name, request_kinds_differ};
+pub use messages::{ClientMsg, MsgFail, ServerMsg, Why, WsRequest};
+pub use server::{
+    decode_server, encode_server, no_text_has_two_server_answers, no_tree_is_two_server_messages,
+    server_messages_are_read,
+};

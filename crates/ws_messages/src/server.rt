@@ -1,0 +1,216 @@
+// Messages of the server, from texts and back.
+ghost use Rattle.std.specs.Prelude.{◌≡◌, ℤ, IfOk, IfErr, OnOk, codes};
+ghost use Rattle.serde_json.specs.View.{view};
+ghost use Rattle.serde_json.specs.Written.{compact_text};
+ghost use Rattle.hrana_value.specs.Members.{HasText};
+ghost use Rattle.hrana_value.specs.declared.failures.Decline.{Decline};
+ghost use Rattle.ws_messages.specs.declared.messages.Why.{Why};
+ghost use Rattle.ws_messages.specs.Failures.{rest_failure};
+ghost use Rattle.ws_messages.specs.Server.{ServerTree, ServerDeclines, ServerViolates, ServerFits, IsServerText, IsDeclinedReply, BreaksAsServer, NoTreeIsTwoServerMessages, ServerMessagesAreRead, NoTextHasTwoServerAnswers};
+ghost use Rattle.ws_messages.specs.WrittenServer.{server_data, ServerReadsBack};
+
+use crate::response_json::{response_of_json, response_to_json};
+use crate::{Kind, MsgFail, ServerMsg, Why};
+use hrana_stmt::{WireError, error_of_json, error_to_json};
+use hrana_value::{Decline, NoMemory, ReadFail, Txt, int32_member, member, text_member};
+use serde_json::{Map, Value as Json, json, put};
+use std::alloc::Global;
+use stream_requests::{Reply, no_members_are_two_replies, replies_are_read};
+
+fn rest_failure(request_id: i32, fail: ReadFail) -> MsgFail
+    ensures { result ≡ rest_failure request_id fail }
+{
+    match fail {
+        ReadFail::Declined(Decline::Float) => MsgFail::Declined {
+            request_id,
+            decline: Decline::Float,
+        },
+        ReadFail::Declined(_) => MsgFail::Violation(Why::BadReply),
+        ReadFail::NoMemory => MsgFail::NoMemory,
+    }
+}
+
+fn hello_error_of_json(alloc: Global, json: &Json) -> Result<ServerMsg, MsgFail>
+    requires { HasText (view json.now) (codes "type") (codes "hello_error") }
+    ensures ok { IfOk result (λ m. ServerTree m (view json.now)) }
+    ensures violation { IfErr result (λ e. (why : Why) → e ≡ MsgFail.Violation why → ServerViolates (view json.now) why) }
+    ensures declined { IfErr result (λ e. (id : ℤ) (d : Decline) → e ≡ MsgFail.Declined id d → ServerDeclines (view json.now) id d) }
+{
+    match error_of_json(alloc, member(json, "error", &Json::Null)) {
+        Ok(error) => Ok(ServerMsg::HelloError(error)),
+        Err(ReadFail::Declined(_)) => Err(MsgFail::Violation(Why::BadReply)),
+        Err(ReadFail::NoMemory) => Err(MsgFail::NoMemory),
+    }
+}
+
+fn ok_of_json(alloc: Global, json: &Json) -> Result<ServerMsg, MsgFail>
+    requires { HasText (view json.now) (codes "type") (codes "response_ok") }
+    ensures ok { IfOk result (λ m. ServerTree m (view json.now)) }
+    ensures violation { IfErr result (λ e. (why : Why) → e ≡ MsgFail.Violation why → ServerViolates (view json.now) why) }
+    ensures declined { IfErr result (λ e. (id : ℤ) (d : Decline) → e ≡ MsgFail.Declined id d → ServerDeclines (view json.now) id d) }
+{
+    let Some(request_id) = int32_member(json, "request_id") else {
+        return Err(MsgFail::Violation(Why::BadRequestId));
+    };
+    match response_of_json(alloc, member(json, "response", &Json::Null)) {
+        Ok((kind, reply)) => Ok(ServerMsg::Ok {
+            request_id,
+            kind,
+            reply,
+        }),
+        Err(fail) => Err(rest_failure(request_id, fail)),
+    }
+}
+
+fn error_msg_of_json(alloc: Global, json: &Json) -> Result<ServerMsg, MsgFail>
+    requires { HasText (view json.now) (codes "type") (codes "response_error") }
+    ensures ok { IfOk result (λ m. ServerTree m (view json.now)) }
+    ensures violation { IfErr result (λ e. (why : Why) → e ≡ MsgFail.Violation why → ServerViolates (view json.now) why) }
+    ensures declined { IfErr result (λ e. (id : ℤ) (d : Decline) → e ≡ MsgFail.Declined id d → ServerDeclines (view json.now) id d) }
+{
+    let Some(request_id) = int32_member(json, "request_id") else {
+        return Err(MsgFail::Violation(Why::BadRequestId));
+    };
+    match error_of_json(alloc, member(json, "error", &Json::Null)) {
+        Ok(error) => Ok(ServerMsg::Error { request_id, error }),
+        Err(fail) => Err(rest_failure(request_id, fail)),
+    }
+}
+
+fn server_of_json(alloc: Global, json: &Json) -> Result<ServerMsg, MsgFail>
+    ensures ok { IfOk result (λ m. ServerTree m (view json.now)) }
+    ensures violation { IfErr result (λ e. (why : Why) → e ≡ MsgFail.Violation why → ServerViolates (view json.now) why) }
+    ensures declined { IfErr result (λ e. (id : ℤ) (d : Decline) → e ≡ MsgFail.Declined id d → ServerDeclines (view json.now) id d) }
+{
+    if !json.is_object() {
+        return Err(MsgFail::Violation(Why::NotObject));
+    }
+    let Some(kind) = text_member(json, "type") else {
+        return Err(MsgFail::Violation(Why::NoKind));
+    };
+    if kind == "hello_ok" {
+        return Ok(ServerMsg::HelloOk);
+    }
+    if kind == "hello_error" {
+        return hello_error_of_json(alloc, json);
+    }
+    if kind == "response_ok" {
+        return ok_of_json(alloc, json);
+    }
+    if kind == "response_error" {
+        return error_msg_of_json(alloc, json);
+    }
+    Err(MsgFail::Violation(Why::UnknownKind))
+}
+
+/// The message of the server that the bytes of a text are.
+pub fn decode_server(alloc: Global, bytes: &[u8]) -> Result<ServerMsg, MsgFail>
+    ensures ok { IfOk result (IsServerText bytes.now) }
+    ensures violation { IfErr result (λ e. (why : Why) → e ≡ MsgFail.Violation why → BreaksAsServer bytes.now why) }
+    ensures declined { IfErr result (λ e. (id : ℤ) (d : Decline) → e ≡ MsgFail.Declined id d → IsDeclinedReply bytes.now id d) }
+{
+    match Json::from_slice(alloc, bytes) {
+        Ok(json) => server_of_json(alloc, &json),
+        Err(error) => {
+            if error.is_memory() {
+                Err(MsgFail::NoMemory)
+            } else {
+                Err(MsgFail::Violation(Why::NotJson))
+            }
+        }
+    }
+}
+
+fn hello_ok_to_json(alloc: Global) -> Result<Json, NoMemory>
+    ensures { IfOk result (λ json. view json ≡ server_data ServerMsg.HelloOk) }
+{
+    Ok(json!(in alloc; {"type": "hello_ok"})?)
+}
+
+fn hello_error_to_json(alloc: Global, error: &WireError) -> Result<Json, NoMemory>
+    ensures written { IfOk result (λ json. view json ≡ server_data (ServerMsg.HelloError error.now)) }
+    ensures reads_back { OnOk result (ServerReadsBack (ServerMsg.HelloError error.now)) }
+{
+    let error = error_to_json(alloc, error)?;
+    let mut members = Map::new(alloc);
+    put(&mut members, alloc, "error", error)?;
+    put(&mut members, alloc, "type", json!(in alloc; "hello_error")?)?;
+    Ok(Json::Object(members))
+}
+
+fn ok_to_json(alloc: Global, request_id: i32, kind: Kind, reply: &Reply) -> Result<Json, NoMemory>
+    ensures written { IfOk result (λ json. view json ≡ server_data (ServerMsg.Ok request_id kind reply.now)) }
+    ensures reads_back { OnOk result (ServerReadsBack (ServerMsg.Ok request_id kind reply.now)) }
+{
+    let response = response_to_json(alloc, kind, reply)?;
+    let mut members = Map::new(alloc);
+    put(&mut members, alloc, "request_id", Json::from(request_id))?;
+    put(&mut members, alloc, "response", response)?;
+    put(&mut members, alloc, "type", json!(in alloc; "response_ok")?)?;
+    Ok(Json::Object(members))
+}
+
+fn error_msg_to_json(alloc: Global, request_id: i32, error: &WireError) -> Result<Json, NoMemory>
+    ensures written { IfOk result (λ json. view json ≡ server_data (ServerMsg.Error request_id error.now)) }
+    ensures reads_back { OnOk result (ServerReadsBack (ServerMsg.Error request_id error.now)) }
+{
+    let error = error_to_json(alloc, error)?;
+    let mut members = Map::new(alloc);
+    put(&mut members, alloc, "error", error)?;
+    put(&mut members, alloc, "request_id", Json::from(request_id))?;
+    put(
+        &mut members,
+        alloc,
+        "type",
+        json!(in alloc; "response_error")?,
+    )?;
+    Ok(Json::Object(members))
+}
+
+fn server_to_json(alloc: Global, msg: &ServerMsg) -> Result<Json, NoMemory>
+    ensures written { IfOk result (λ json. view json ≡ server_data msg.now) }
+    ensures reads_back { OnOk result (ServerReadsBack msg.now) }
+{
+    match msg {
+        ServerMsg::HelloOk => hello_ok_to_json(alloc),
+        ServerMsg::HelloError(error) => hello_error_to_json(alloc, error),
+        ServerMsg::Ok {
+            request_id,
+            kind,
+            reply,
+        } => ok_to_json(alloc, *request_id, *kind, reply),
+        ServerMsg::Error { request_id, error } => error_msg_to_json(alloc, *request_id, error),
+    }
+}
+
+/// Writes a message of the server, compact and with its members in byte order. What is absent is null. A reply is
+/// written under the `type` of the kind; what has not the form of its kind is no message.
+pub fn encode_server(alloc: Global, msg: &ServerMsg) -> Result<Txt, NoMemory>
+    ensures written { IfOk result (λ text. text ≡ compact_text (server_data msg.now)) }
+    ensures reads_back { IfOk result (λ text. ServerFits msg.now → IsServerText text msg.now) }
+{
+    let json = server_to_json(alloc, msg)?;
+    Ok(Txt::from_string(json.to_string(alloc)?))
+}
+
+/// A tree is the form of at most one message of the server.
+pub fn no_tree_is_two_server_messages()
+    ensures { NoTreeIsTwoServerMessages }
+{
+    no_members_are_two_replies();
+}
+
+/// Nothing is declined in the form of a message of the server.
+pub fn server_messages_are_read()
+    ensures { ServerMessagesAreRead }
+{
+    replies_are_read();
+}
+
+/// Of any bytes `decode_server` has one answer besides want of memory.
+pub fn no_text_has_two_server_answers()
+    ensures { NoTextHasTwoServerAnswers }
+{
+    no_tree_is_two_server_messages();
+    server_messages_are_read();
+}
