@@ -14,10 +14,9 @@ use Rattle.hrana_value.proofs.DeclineLemmas.{NoneStands-parts}
 use Rattle.hrana_value.proofs.PartLemmas.{TextTree-none, WholeStands-none}
 use Rattle.hrana_stmt.proofs.StmtLemmas.{StmtTree-one, StmtTree-fits, SqlTree-one, sql_none, sql_fits}
 use Rattle.hrana_batch.specs.Tree.{NoTreeIsTwoBatches, FittingBatchesAreRead}
-use Rattle.stream_requests.specs.declared.asks.Ask.{Ask}
 use Rattle.stream_requests.specs.declared.asks.Ask.TheVariants.{Execute, Batch, Sequence, Cursor, Fetch, CloseCursor, GetAutocommit, StoreSql, CloseSql, Close}
 use Rattle.stream_requests.specs.declared.asks.AskKind.TheVariants as kind
-use Rattle.stream_requests.specs.Asks.{AskMembers, AskMembersStand, StoredTextStands, NoMembersAreTwoAsks, FittingAsksAreRead}
+use Rattle.stream_requests.specs.Asks.{AskMembersStand, StoredTextStands, NoMembersAreTwoAsks, FittingAsksAreRead}
 use Rattle.stream_requests.proofs.EntryLemmas.{uint32_one, uint32_none}
 
 -- ---- at most one ask

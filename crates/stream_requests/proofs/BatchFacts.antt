@@ -1,8 +1,8 @@
 -- What is used of batches: that they are read where they fit, and that what is written for one has no float and is not
 -- too deep to be read.
-use Rattle.std.proofs.Common.{◌≡◌, ℕ, suc, ◌+◌, ◌≤◌, List, [], ◌∷◌, map, max, Option, None, Some, false, codes, refl, subst, sym, ap, ◌∙◌, arith, slice_get}
+use Rattle.std.proofs.Common.{◌≡◌, ℕ, suc, ◌+◌, ◌≤◌, List, [], ◌∷◌, map, Option, None, Some, false, codes, refl, subst, ap, ◌∙◌, arith, slice_get}
 use Rattle.std.specs.Prelude.{IfSome}
-use Rattle.serde_json.specs.Data.{Data, null, boolean, number, string, array, object, Items, no_items, item, depth, items_depth}
+use Rattle.serde_json.specs.Data.{Data, array, Items, no_items, item, depth, items_depth}
 use Rattle.serde_json.specs.View.{items_of}
 use Rattle.serde_json.specs.Written.{has_float, items_have_float}
 use Rattle.hrana_value.specs.Members.{part_at}
@@ -11,7 +11,6 @@ use Rattle.hrana_value.proofs.NoFloats.{neither, items_have_float-map}
 use Rattle.hrana_stmt.specs.Written.{stmt_data}
 use Rattle.hrana_stmt.proofs.NoFloats.{has_float-stmt_data, has_float-result_data, has_float-error_data}
 use Rattle.hrana_batch.specs.declared.conditions.Cond.{Cond}
-use Rattle.hrana_batch.specs.declared.conditions.Cond.TheVariants.{StepOk, StepError, Not, All, Any, Autocommit}
 use Rattle.hrana_batch.specs.declared.batches.Step.{Step}
 use Rattle.hrana_batch.specs.declared.batches.Batch.{Batch}
 use Rattle.hrana_batch.specs.declared.outcomes.Outcome.{Outcome}

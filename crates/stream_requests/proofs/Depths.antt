@@ -1,5 +1,5 @@
 -- How deep what is written nests.
-use Rattle.std.proofs.Common.{◌≡◌, ℕ, ℤ, ◌≤◌, ◌+◌, List, [], ◌∷◌, map, Option, None, Some, Bool, true, false, codes, arith}
+use Rattle.std.proofs.Common.{ℕ, ℤ, ◌≤◌, List, [], ◌∷◌, map, Option, None, Some, Bool, true, false, codes, arith}
 use Rattle.serde_json.specs.Data.{Data, boolean, array, Members, no_members, depth, items_depth, members_depth}
 use Rattle.serde_json.specs.View.{items_of}
 use Rattle.hrana_value.specs.declared.value.Value.{Value}

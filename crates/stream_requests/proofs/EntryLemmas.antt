@@ -1,18 +1,15 @@
 -- A tree is one of at most one cursor entry, and what the readers of entries answer.
-use Rattle.std.proofs.Common.{◌≡◌, ℕ, ◌<◌, List, [], ◌∷◌, length, get_or, None, Some, codes, refl, subst, sym, ap, ◌∙◌, lit<}
+use Rattle.std.proofs.Common.{◌≡◌, ℕ, ◌<◌, List, [], ◌∷◌, length, get_or, codes, refl, subst, sym, ap, ◌∙◌, lit<}
 use Rattle.std.specs.Prelude.{Result, pos}
 use Rattle.serde_json.specs.Data.{Data}
-use Rattle.hrana_value.specs.Names.{RowsDiffer}
 use Rattle.hrana_value.proofs.NameLemmas.{RowsDiffer-tested}
 use Rattle.hrana_value.proofs.TextLemmas.{one, apart}
 use Rattle.hrana_value.specs.declared.failures.Decline.{Decline}
-use Rattle.hrana_value.specs.declared.failures.Decline.TheVariants.{Shape}
 use Rattle.hrana_value.specs.declared.failures.ReadFail.{ReadFail}
-use Rattle.hrana_value.specs.declared.failures.ReadFail.TheVariants.{Declined}
-use Rattle.hrana_value.specs.Declines.{Reads, NoneStands, EitherStands}
-use Rattle.hrana_value.specs.Members.{HasText, text_at, part_at, Uint32Tree, Uint32Stands, Uint64Tree, Uint64Stands, FitsUnsigned}
+use Rattle.hrana_value.specs.Declines.{Reads, NoneStands}
+use Rattle.hrana_value.specs.Members.{HasText, part_at, Uint32Tree, Uint32Stands, Uint64Tree, Uint64Stands, FitsUnsigned}
 use Rattle.hrana_value.specs.Tree.{Int64TextTree, Int64TextStands}
-use Rattle.hrana_value.specs.Trees.{ArrayTree, ArrayStands, OptionalTree, OptionalStands}
+use Rattle.hrana_value.specs.Trees.{ArrayStands, OptionalStands}
 use Rattle.hrana_value.proofs.DeclineLemmas.{Reads-weaken, Reads-same, NoneStands-parts}
 use Rattle.hrana_value.proofs.TreeLemmas.{ValueTree-one, ValueTree-none}
 use Rattle.hrana_value.specs.Tree.{ValueTree, ValueStands}
@@ -25,7 +22,7 @@ use Rattle.stream_requests.specs.declared.entries.CursorEntry.{CursorEntry}
 use Rattle.stream_requests.specs.declared.entries.CursorEntry.TheVariants.{StepBegin, StepEnd, StepError, Row, Error}
 use Rattle.stream_requests.specs.declared.entries.EntryKind.{EntryKind}
 use Rattle.stream_requests.specs.declared.entries.EntryKind.TheVariants as kind
-use Rattle.stream_requests.specs.Entries.{entry_name, entry_kind, EntryTree, EntryMembers, EntryStands, no_kind, in_members, EntryMembersStand, IsNoEntryKind, NoTreeIsTwoEntries, EntriesAreRead}
+use Rattle.stream_requests.specs.Entries.{entry_name, entry_kind, EntryTree, EntryMembers, EntryStands, no_kind, in_members, EntryMembersStand, NoTreeIsTwoEntries, EntriesAreRead}
 use Rattle.stream_requests.specs.EntryParts.{IsEntryOf}
 use Rattle.stream_requests.proofs.NameLemmas.{one_name}
 

@@ -1,5 +1,5 @@
 -- What is written for a cursor entry is a form of it.
-use Rattle.std.proofs.Common.{◌≡◌, ℕ, ℤ, ◌<◌, ◌^◌, List, Option, refl, subst, sym, ap, ◌∙◌}
+use Rattle.std.proofs.Common.{◌≡◌, ℕ, ℤ, ◌<◌, ◌^◌, List, Option, refl, subst, sym}
 use Rattle.serde_json.specs.Data.{Data}
 use Rattle.hrana_value.specs.declared.value.Value.{Value}
 use Rattle.hrana_value.specs.Tree.{Int64TextTree}

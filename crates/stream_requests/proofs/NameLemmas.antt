@@ -1,5 +1,5 @@
 -- Kinds whose names are the rows of a table that differ.
-use Rattle.std.proofs.Common.{◌≡◌, ℕ, ◌<◌, List, [], ◌∷◌, length, get_or, map, refl, sym, ◌∙◌, ap}
+use Rattle.std.proofs.Common.{◌≡◌, ℕ, ◌<◌, List, [], length, get_or, sym, ◌∙◌, ap}
 use Rattle.hrana_value.specs.Names.{RowsDiffer}
 
 -- the kinds of one name are one, where each stands in its place

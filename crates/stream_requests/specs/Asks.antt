@@ -1,5 +1,5 @@
 -- Which members an ask may be written as, and which declines stand in members that should be those of an ask.
-use Rattle.std.specs.Prelude.{◌≡◌, ◌↔◌, ℕ, ◌≤◌, ◌<◌, ◌^◌, List, length, codes, IsSomeAnd, FitsSigned}
+use Rattle.std.specs.Prelude.{◌≡◌, ◌↔◌, ◌≤◌, ◌<◌, ◌^◌, length, codes, IsSomeAnd, FitsSigned}
 use Rattle.std.specs.Int.{w32}
 use Rattle.serde_json.specs.Data.{Data, Members, number, unsigned, string, put}
 use Rattle.serde_json.specs.Find.{as_str, of_integer}

@@ -1,22 +1,21 @@
 -- Of any bytes one answer of `decode_client` can be said at most.
-use Rattle.std.proofs.Common.{◌≡◌, inl, inr, ℕ, ◌<◌, ℤ, List, Option, None, Some, Result, Ok, Err, codes, refl, subst, sym, ap, ◌∙◌, arith}
+use Rattle.std.proofs.Common.{◌≡◌, inl, inr, ℕ, ◌<◌, ℤ, List, Option, None, Some, Ok, Err, codes, refl, subst, sym, ap, ◌∙◌, arith}
 use Rattle.std.proofs.lemmas.Bool.{cases_lt}
 use Rattle.serde_json.specs.Data.{Data, null, boolean, number, string, array, object}
 use Rattle.serde_json.specs.Find.{as_object, as_str}
 use Rattle.hrana_value.specs.declared.failures.Decline.{Decline}
 use Rattle.hrana_value.specs.declared.failures.Decline.TheVariants.{Unknown, Describe, Shape, BothSql, BadStep, Range, Float}
-use Rattle.hrana_value.specs.Declines.{rank_of, NoneStands, IsFirst}
+use Rattle.hrana_value.specs.Declines.{rank_of, IsFirst}
 use Rattle.hrana_value.specs.Members.{HasText, TextTree}
 use Rattle.hrana_value.specs.Trees.{OptionalTree}
 use Rattle.hrana_value.proofs.TextLemmas.{one, apart}
 use Rattle.stream_requests.proofs.AskLemmas.{int32_one}
 use Rattle.ws_messages.specs.declared.messages.ClientMsg.{ClientMsg}
 use Rattle.ws_messages.specs.declared.messages.ClientMsg.TheVariants.{Hello, Request}
-use Rattle.ws_messages.specs.declared.messages.MsgFail.{MsgFail}
 use Rattle.ws_messages.specs.declared.messages.MsgFail.TheVariants.{Violation, Declined}
 use Rattle.ws_messages.specs.declared.messages.Why.{Why}
 use Rattle.ws_messages.specs.declared.messages.Why.TheVariants.{NotJson, NotObject, NoKind, UnknownKind, BadHello, BadRequestId, BadReply}
-use Rattle.ws_messages.specs.Client.{ClientTree, ClientStands, ClientDeclines, ClientViolates, IsJson, IsNoJson, IsClientText, IsDeclinedRequest, BreaksAsClient, NoTreeIsTwoClientMessages, ClientAnswer, is_message, breaks, is_declined, NoTextHasTwoClientAnswers}
+use Rattle.ws_messages.specs.Client.{ClientTree, ClientDeclines, ClientViolates, IsJson, IsNoJson, IsClientText, IsDeclinedRequest, BreaksAsClient, NoTreeIsTwoClientMessages, is_message, breaks, is_declined, NoTextHasTwoClientAnswers}
 
 -- ---- the first kind is one
 

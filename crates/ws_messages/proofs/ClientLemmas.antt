@@ -1,21 +1,13 @@
 -- Laws of client messages.
-use Rattle.std.proofs.Common.{◌≡◌, inl, inr, ℤ, List, ℕ, None, Some, Result, Ok, Err, codes, refl, subst, sym, ap, ◌∙◌}
-use Rattle.serde_json.specs.Data.{Data, null}
-use Rattle.serde_json.specs.Find.{as_object, as_str}
-use Rattle.serde_json.specs.Read.{read}
-use Rattle.hrana_value.specs.declared.failures.Decline.{Decline}
-use Rattle.hrana_value.specs.Declines.{NoneStands, IsFirst}
-use Rattle.hrana_value.specs.Members.{HasText, text_at, part_at, TextTree}
-use Rattle.hrana_value.specs.Trees.{OptionalTree}
+use Rattle.std.proofs.Common.{◌≡◌, List, ℕ, refl, ap, ◌∙◌}
+use Rattle.serde_json.specs.Data.{Data}
+use Rattle.hrana_value.specs.Members.{TextTree}
 use Rattle.hrana_value.proofs.TextLemmas.{one, apart}
 use Rattle.hrana_value.proofs.PartLemmas.{OptionalTree-one}
 use Rattle.stream_requests.proofs.AskLemmas.{int32_one}
-use Rattle.ws_messages.specs.declared.messages.ClientMsg.{ClientMsg}
 use Rattle.ws_messages.specs.declared.messages.ClientMsg.TheVariants.{Hello, Request}
-use Rattle.ws_messages.specs.declared.messages.Why.{Why}
-use Rattle.ws_messages.specs.declared.messages.Why.TheVariants.{NotJson, NotObject, NoKind, UnknownKind, BadHello, BadRequestId, BadReply}
 use Rattle.ws_messages.specs.Requests.{NoTreeIsTwoRequests, FittingRequestsAreRead}
-use Rattle.ws_messages.specs.Client.{request_of, ClientTree, ClientStands, ClientDeclines, ClientViolates, ClientFits, IsJson, NoTreeIsTwoClientMessages, FittingClientMessagesAreRead}
+use Rattle.ws_messages.specs.Client.{request_of, NoTreeIsTwoClientMessages, FittingClientMessagesAreRead}
 
 text_one : (t : Data) (s r : List ℕ) → TextTree s t → TextTree r t → s ≡ r
 text_one t s r p q = one _ _ _ p q

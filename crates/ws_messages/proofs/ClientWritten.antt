@@ -2,7 +2,7 @@
 use Rattle.std.proofs.Common.{◌≡◌, ℕ, ℤ, ◌≤◌, List, Option, None, Some, false, codes, refl, subst, sym, ap, ◌∙◌, arith}
 use Rattle.std.specs.Prelude.{pos, negsuc, FitsSigned, IsUtf8}
 use Rattle.std.specs.Int.{w32}
-use Rattle.serde_json.specs.Data.{Data, number, string, object, Members, put, depth, members_depth}
+use Rattle.serde_json.specs.Data.{string, object, Members, put, depth, members_depth}
 use Rattle.serde_json.specs.Read.{read}
 use Rattle.serde_json.specs.Written.{has_float, members_have_float}
 use Rattle.hrana_value.specs.Members.{HasText, HasInt32, Int32Tree, TextTree, whole_of}

@@ -1,5 +1,5 @@
 -- The names of the kinds of requests.
-use Rattle.std.proofs.Common.{◌≡◌, ℕ, ◌<◌, List, [], ◌∷◌, length, get_or, Option, None, Some, codes, refl, subst, sym, ap, ◌∙◌, lit<}
+use Rattle.std.proofs.Common.{◌≡◌, ℕ, ◌<◌, List, [], ◌∷◌, length, get_or, Option, None, Some, codes, refl, sym, ap, ◌∙◌, lit<}
 use Rattle.hrana_value.proofs.NameLemmas.{RowsDiffer-tested}
 use Rattle.hrana_value.proofs.TextLemmas.{apart}
 use Rattle.stream_requests.specs.declared.asks.AskKind.{AskKind}

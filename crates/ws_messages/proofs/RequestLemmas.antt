@@ -1,29 +1,28 @@
 -- A tree is one of at most one request, is read where the request breaks no limit, and what the readers of requests answer.
-use Rattle.std.proofs.Common.{◌≡◌, inl, inr, ℕ, ℤ, ◌<◌, ◌≤◌, List, length, Option, None, Some, codes, refl, subst, sym, ap, ◌∙◌, arith}
-use Rattle.std.specs.Prelude.{Result, Ok, Err, FitsSigned}
+use Rattle.std.proofs.Common.{◌≡◌, inr, ℕ, ℤ, ◌<◌, List, codes, refl, subst, sym, ap, ◌∙◌, arith}
+use Rattle.std.specs.Prelude.{Result, Err, FitsSigned}
 use Rattle.std.specs.Int.{w32, cast_signed, cast_unsigned}
 use Rattle.std.proofs.lemmas.Int.{to_z-of_z}
 use Rattle.serde_json.specs.Data.{Data}
 use Rattle.hrana_value.specs.declared.failures.Decline.{Decline}
-use Rattle.hrana_value.specs.declared.failures.Decline.TheVariants.{Unknown, Describe, Shape, BothSql, BadStep, Range, Float}
+use Rattle.hrana_value.specs.declared.failures.Decline.TheVariants.{Unknown}
 use Rattle.hrana_value.specs.declared.failures.ReadFail.{ReadFail}
 use Rattle.hrana_value.specs.declared.failures.ReadFail.TheVariants.{Declined}
 use Rattle.hrana_value.specs.Declines.{rank_of, Reads, NoneStands, EitherStands}
 use Rattle.hrana_value.specs.Members.{HasText, text_at, part_at, Uint32Stands}
 use Rattle.hrana_value.proofs.TextLemmas.{one, apart}
-use Rattle.hrana_value.proofs.DeclineLemmas.{Reads-weaken, Reads-same, Reads-declined, NoneStands-parts, NoneStands-left, NoneStands-right}
-use Rattle.hrana_batch.specs.Tree.{BatchTree, BatchStands, NoTreeIsTwoBatches, FittingBatchesAreRead}
+use Rattle.hrana_value.proofs.DeclineLemmas.{Reads-weaken, Reads-same, Reads-declined, NoneStands-parts}
+use Rattle.hrana_batch.specs.Tree.{BatchStands, NoTreeIsTwoBatches, FittingBatchesAreRead}
 use Rattle.stream_requests.specs.declared.asks.Ask.{Ask}
 use Rattle.stream_requests.specs.declared.asks.Ask.TheVariants as asks
 use Rattle.stream_requests.specs.declared.asks.AskKind.{AskKind}
 use Rattle.stream_requests.specs.declared.asks.AskKind.TheVariants as ask
-use Rattle.stream_requests.specs.Asks.{ask_kind, AskMembersStand, AskFits, NoMembersAreTwoAsks, FittingAsksAreRead}
+use Rattle.stream_requests.specs.Asks.{ask_kind, AskMembersStand, NoMembersAreTwoAsks, FittingAsksAreRead}
 use Rattle.stream_requests.proofs.AskLemmas.{int32_one, int32_none}
 use Rattle.stream_requests.proofs.EntryLemmas.{uint32_one, uint32_none}
 use Rattle.ws_messages.specs.declared.messages.WsRequest.{WsRequest}
 use Rattle.ws_messages.specs.declared.messages.WsRequest.TheVariants.{OpenStream, OnStream, OpenCursor, CloseCursor, FetchCursor, StoreSql, CloseSql}
 use Rattle.ws_messages.specs.declared.kinds.Kind.{Kind}
-use Rattle.ws_messages.specs.declared.kinds.Kind.TheVariants as kind
 use Rattle.ws_messages.specs.Kinds.{name_of, kind_of, IsStreamAsk}
 use Rattle.ws_messages.specs.Requests.{request_kind, IsFormed, RequestMembers, IsRequestOf, RequestTree, StreamStands, CursorStands, OnStreamStands, RequestMembersStand, RequestStands, no_kind, is_describe, other_kind, in_members, RequestFits, NoTreeIsTwoRequests, FittingRequestsAreRead}
 use Rattle.ws_messages.proofs.KindLemmas.{name_of-one, not_describe, kind_of-one, IsStreamKind, kind_of-stream}

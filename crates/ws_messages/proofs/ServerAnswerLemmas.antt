@@ -1,5 +1,5 @@
 -- Of any bytes one answer of `decode_server` can be said at most.
-use Rattle.std.proofs.Common.{◌≡◌, inl, inr, ℕ, ◌<◌, ℤ, List, None, Some, Result, Ok, Err, codes, refl, subst, sym, ap, ◌∙◌, arith}
+use Rattle.std.proofs.Common.{◌≡◌, inl, inr, ℕ, ◌<◌, ℤ, List, Ok, Err, codes, refl, subst, sym, ap, ◌∙◌, arith}
 use Rattle.std.proofs.lemmas.Bool.{cases_lt}
 use Rattle.serde_json.specs.Data.{Data}
 use Rattle.hrana_value.specs.declared.failures.Decline.{Decline}
@@ -11,7 +11,7 @@ use Rattle.ws_messages.specs.declared.messages.ServerMsg.TheVariants as server
 use Rattle.ws_messages.specs.declared.messages.MsgFail.TheVariants.{Violation, Declined}
 use Rattle.ws_messages.specs.declared.messages.Why.{Why}
 use Rattle.ws_messages.specs.declared.messages.Why.TheVariants.{NotJson, NotObject, NoKind, UnknownKind, BadHello, BadRequestId, BadReply}
-use Rattle.ws_messages.specs.Server.{ServerTree, IsNumbered, ServerDeclines, IsBadReply, IsNoServerKind, ServerViolates, IsServerText, IsDeclinedReply, BreaksAsServer, NoTreeIsTwoServerMessages, ServerMessagesAreRead, ServerAnswer, is_message, breaks, is_declined, NoTextHasTwoServerAnswers}
+use Rattle.ws_messages.specs.Server.{ServerTree, IsNumbered, ServerDeclines, IsBadReply, IsNoServerKind, ServerViolates, IsServerText, IsDeclinedReply, BreaksAsServer, NoTreeIsTwoServerMessages, ServerMessagesAreRead, is_message, breaks, is_declined, NoTextHasTwoServerAnswers}
 use Rattle.ws_messages.proofs.AnswerLemmas.{place, place-one, no_text, json_one, not_both}
 
 -- ---- trees

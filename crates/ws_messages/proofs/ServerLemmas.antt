@@ -1,5 +1,5 @@
 -- Laws of the server's messages, and what is answered where the rest of one could not be read.
-use Rattle.std.proofs.Common.{◌≡◌, ◌⊎◌, inl, inr, ℕ, ◌<◌, ℤ, List, Option, None, Some, Result, codes, refl, subst, sym, ap, ◌∙◌, arith}
+use Rattle.std.proofs.Common.{◌≡◌, inl, inr, ◌<◌, ℤ, Some, Result, codes, refl, subst, sym, ap, ◌∙◌, arith}
 use Rattle.serde_json.specs.Data.{Data}
 use Rattle.hrana_value.specs.declared.failures.Decline.{Decline}
 use Rattle.hrana_value.specs.declared.failures.Decline.TheVariants.{Unknown, Describe, Shape, BothSql, BadStep, Range, Float}
@@ -15,18 +15,17 @@ use Rattle.stream_requests.specs.declared.asks.AskKind.{AskKind}
 use Rattle.stream_requests.specs.declared.asks.AskKind.TheVariants as ask
 use Rattle.stream_requests.specs.declared.replies.Reply.{Reply}
 use Rattle.stream_requests.specs.declared.replies.Reply.TheVariants as replies
-use Rattle.stream_requests.specs.Replies.{answered_kind, ReplyMembers, IsReplyTo, ReplyMembersStand, NoMembersAreTwoReplies, RepliesAreRead}
+use Rattle.stream_requests.specs.Replies.{answered_kind, IsReplyTo, NoMembersAreTwoReplies, RepliesAreRead}
 use Rattle.stream_requests.proofs.AskLemmas.{int32_one}
 use Rattle.ws_messages.specs.declared.kinds.Kind.{Kind}
 use Rattle.ws_messages.specs.declared.kinds.Kind.TheVariants as kind
-use Rattle.ws_messages.specs.declared.messages.ServerMsg.{ServerMsg}
 use Rattle.ws_messages.specs.declared.messages.ServerMsg.TheVariants as server
 use Rattle.ws_messages.specs.declared.messages.MsgFail.TheVariants.{Violation, Declined}
 use Rattle.ws_messages.specs.declared.messages.Why.{Why}
 use Rattle.ws_messages.specs.declared.messages.Why.TheVariants.{BadReply}
 use Rattle.ws_messages.specs.Failures.{rest_failure}
 use Rattle.ws_messages.specs.Kinds.{name_of}
-use Rattle.ws_messages.specs.Server.{reply_kind, IsReplyOf, ResponseTree, ResponseStands, no_kind, in_members, ResponseMembersStand, response_of, error_of, ServerTree, IsNumbered, RestStands, ServerDeclines, IsBadReply, ServerViolates, NoTreeIsTwoServerMessages, ServerMessagesAreRead}
+use Rattle.ws_messages.specs.Server.{reply_kind, IsReplyOf, ResponseTree, ResponseStands, no_kind, in_members, ResponseMembersStand, response_of, error_of, IsNumbered, RestStands, ServerDeclines, IsBadReply, ServerViolates, NoTreeIsTwoServerMessages, ServerMessagesAreRead}
 use Rattle.ws_messages.proofs.KindLemmas.{name_of-one}
 
 -- ---- replies by their kind

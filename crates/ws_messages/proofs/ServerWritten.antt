@@ -1,7 +1,7 @@
 -- What is written for a message of the server is a form of it, has no float, and is not too deep to be read.
-use Rattle.std.proofs.Common.{◌≡◌, ℕ, ℤ, ◌≤◌, List, Option, Some, false, codes, refl, subst, sym, ap, ◌∙◌, arith}
+use Rattle.std.proofs.Common.{◌≡◌, ℕ, ◌≤◌, List, Some, false, codes, refl, subst, sym, ap, ◌∙◌, arith}
 use Rattle.std.specs.Prelude.{IsUtf8}
-use Rattle.serde_json.specs.Data.{Data, boolean, object, Members, put, depth, members_depth}
+use Rattle.serde_json.specs.Data.{boolean, Members, put, depth, members_depth}
 use Rattle.serde_json.specs.Read.{read}
 use Rattle.serde_json.specs.Written.{has_float, members_have_float}
 use Rattle.hrana_value.specs.Members.{HasText}

@@ -1,7 +1,7 @@
 -- The trees that messages of a client are written as.
-use Rattle.std.specs.Prelude.{◌≡◌, ℕ, ℤ, ◌<◌, ◌^◌, List, Option, None, Some, codes, FitsSigned}
+use Rattle.std.specs.Prelude.{ℤ, ◌<◌, ◌^◌, codes, FitsSigned}
 use Rattle.std.specs.Int.{w32}
-use Rattle.serde_json.specs.Data.{Data, null, number, unsigned, string, object, Members, member, no_members}
+use Rattle.serde_json.specs.Data.{Data, number, unsigned, string, object, Members, member, no_members}
 use Rattle.serde_json.specs.Find.{of_integer}
 use Rattle.hrana_stmt.specs.Written.{optional_text}
 use Rattle.hrana_batch.specs.Tree.{BatchTree}

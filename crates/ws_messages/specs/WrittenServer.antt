@@ -1,7 +1,7 @@
 -- The trees that messages of the server are written as.
 use Rattle.std.specs.Prelude.{ℤ, codes, FitsSigned}
 use Rattle.std.specs.Int.{w32}
-use Rattle.serde_json.specs.Data.{Data, string, object, Members, member, no_members}
+use Rattle.serde_json.specs.Data.{Data, string, object, member, no_members}
 use Rattle.hrana_stmt.specs.Tree.{WireErrorTree}
 use Rattle.hrana_stmt.specs.Written.{error_data}
 use Rattle.stream_requests.specs.declared.replies.Reply.{Reply}
@@ -9,7 +9,6 @@ use Rattle.stream_requests.specs.Replies.{put_reply, ReplyReadsBack}
 use Rattle.ws_messages.specs.declared.kinds.Kind.{Kind}
 use Rattle.ws_messages.specs.declared.messages.ServerMsg.{ServerMsg}
 use Rattle.ws_messages.specs.declared.messages.ServerMsg.TheVariants as server
-use Rattle.ws_messages.specs.declared.messages.MsgFail.{MsgFail}
 use Rattle.ws_messages.specs.WrittenClient.{integer, kind_member}
 
 -- the members of a reply come before its `type`

@@ -8,6 +8,8 @@ mod request_json;
 mod request_written;
 mod response_json;
 mod server;
+#[cfg(test)]
+mod tests;
 
 pub use client::{
     decode_client, encode_client, fitting_client_messages_are_read, no_text_has_two_client_answers,
