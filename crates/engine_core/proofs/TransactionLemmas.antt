@@ -1,5 +1,5 @@
 -- What ends leave of an engine with no other live transaction.
-use Rattle.std.proofs.Common.{◌≡◌, ◌≢◌, ℕ, Bool, true, false, eqb, ◌⊎◌, inl, inr, ◌∙◌, Option, Some, None, subst, sym}
+use Rattle.std.proofs.Common.{◌≡◌, ◌≢◌, ℕ, true, false, eqb, ◌⊎◌, inl, inr, ◌∙◌, Option, None, subst, sym}
 use Rattle.std.proofs.lemmas.Bool.Decides.{eqb_tells}
 use Rattle.engine_core.specs.Transactions.{View, Lives, NoneLive, SameLive, Became}
 

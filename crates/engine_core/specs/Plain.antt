@@ -1,8 +1,8 @@
 -- The meaning of the plain keeper's two statements, over the list of the values of its one column.
-use Rattle.std.specs.Prelude.{◌≡◌, ℕ, Result, Ok, Err, IsTrue, Bool, true, false, ◌+◌, ◌-◌, ◌^◌, nat_lt, nat_le, ◌&&◌, List, [], ◌∷◌, ◌++◌, length, map, sum_by, pos, Option, Some, None, codes, nat_eq, if◌then◌else◌}
+use Rattle.std.specs.Prelude.{◌≡◌, ℕ, Result, Ok, Err, IsTrue, Bool, true, false, ◌+◌, ◌-◌, ◌^◌, nat_lt, nat_le, ◌&&◌, List, [], ◌∷◌, ◌++◌, length, map, pos, Option, Some, None, codes, nat_eq, if◌then◌else◌}
 use Rattle.std.specs.Cmp.Lexicographic.{pointwise}
 use Rattle.hrana_value.specs.declared.value.Value.{Value}
-use Rattle.hrana_value.specs.declared.value.Value.TheVariants.{Null, Integer, Text, Blob}
+use Rattle.hrana_value.specs.declared.value.Value.TheVariants.{Null}
 use Rattle.hrana_stmt.specs.declared.results.StmtResult.{StmtResult}
 use Rattle.hrana_stmt.specs.declared.codes.Code.TheVariants.{Syntax, ResultTooLarge, Overflow}
 use Rattle.engine_core.specs.Engine.{is_write, is_engine_code}

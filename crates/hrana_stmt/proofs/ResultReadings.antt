@@ -1,10 +1,9 @@
 -- What the readers of results and errors answer, by their parts.
-use Rattle.std.proofs.Common.{◌≡◌, ap, ◌∙◌, List, Option, ℕ, ℤ, subst, refl, codes}
-use Rattle.std.specs.Prelude.{Result, pos}
+use Rattle.std.proofs.Common.{◌≡◌, ap, ◌∙◌, List, Option, ℕ, ℤ, refl, codes}
+use Rattle.std.specs.Prelude.{pos}
 use Rattle.serde_json.specs.Data.{Data}
 use Rattle.hrana_value.specs.declared.value.Value.{Value}
-use Rattle.hrana_value.specs.declared.failures.ReadFail.{ReadFail}
-use Rattle.hrana_value.specs.Declines.{Reads, EitherStands, NoneStands}
+use Rattle.hrana_value.specs.Declines.{EitherStands, NoneStands}
 use Rattle.hrana_value.specs.Members.{part_at, TextTree, TextStands, Uint64Tree, Uint64Stands, FitsUnsigned}
 use Rattle.hrana_value.specs.Tree.{ValueTree, ValueStands, Int64TextTree, Int64TextStands}
 use Rattle.hrana_value.specs.Trees.{ArrayStands, OptionalStands}
@@ -14,7 +13,7 @@ use Rattle.hrana_value.proofs.ItemsLemmas.{ArrayTree-one}
 use Rattle.hrana_value.proofs.ArrayLemmas.{ArrayTree-none}
 use Rattle.hrana_value.proofs.PartLemmas.{OptionalTree-one, OptionalTree-none, TextTree-none, Int64TextTree-one, Int64TextTree-none, WholeStands-none}
 use Rattle.hrana_value.proofs.DeclineLemmas.{NoneStands-parts}
-use Rattle.hrana_stmt.specs.Tree.{ObjectStands, ColTree, ColStands, RowTree, RowStands, StmtResultTree, StmtResultStands, WireErrorTree, WireErrorStands, NoTreeIsTwoResults, NoTreeIsTwoErrors, ResultsAreRead, ErrorsAreRead}
+use Rattle.hrana_stmt.specs.Tree.{ObjectStands, ColTree, ColStands, RowTree, RowStands, NoTreeIsTwoResults, NoTreeIsTwoErrors, ResultsAreRead, ErrorsAreRead}
 use Rattle.hrana_stmt.specs.declared.results.Col.{Col}
 use Rattle.hrana_stmt.specs.declared.results.StmtResult.{StmtResult}
 use Rattle.hrana_stmt.specs.declared.errors.WireError.{WireError}

@@ -1,4 +1,4 @@
-use Rattle.std.proofs.Common.{◌≡◌, Err, Some, None, ◌∙◌, sym, ap, subst, rules}
+use Rattle.std.proofs.Common.{◌≡◌, Err, Some, None, subst, rules}
 use Rattle.sql_text.specs.Binding.{bound}
 use Rattle.sql_text.specs.Class.{class_of_text}
 use Rattle.hrana_serve.specs.Checks.{IsOneText, BindsAs, class_refused}

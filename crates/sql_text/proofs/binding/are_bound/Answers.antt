@@ -1,4 +1,4 @@
-use Rattle.std.proofs.Common.{◌≡◌, length, nat_eq, IsTrue, Ok, [], ap, ◌∙◌, sym, subst, arith}
+use Rattle.std.proofs.Common.{◌≡◌, length, [], ap, ◌∙◌, subst, arith}
 use Rattle.std.proofs.lemmas.Bool.Decides.{nat_tests}
 use Rattle.std.proofs.lemmas.List.{nil_from_length}
 use Rattle.sql_text.specs.Parameters.{views, greatest}

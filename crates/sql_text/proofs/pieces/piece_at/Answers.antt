@@ -1,5 +1,4 @@
-use Rattle.std.proofs.Common.{◌≡◌, ℕ, sym, subst, ◌<◌, ◌≤◌, ◌+◌, ap, ◌∙◌, arith, drop, IsUtf8}
-use Rattle.std.specs.Str.{IsCharBoundary}
+use Rattle.std.proofs.Common.{◌≡◌, ℕ, sym, subst, ap, ◌∙◌, arith, drop}
 use Rattle.std.proofs.lemmas.List.{take_rest}
 use Rattle.sql_text.specs.Pieces.{first_piece}
 use Rattle.sql_text.proofs.PieceLists.{PieceStands, piece_stands}
