@@ -434,7 +434,7 @@ ranked-rank keyword.Update = refl
 ranked-rank keyword.Values = refl
 ranked-rank keyword.Where = refl
 
-same_keyword : (k : Keyword) (s : Symbol) → is_keyword k s ≡ true → s ≡ symbol.Keyword k
+pub same_keyword : (k : Keyword) (s : Symbol) → is_keyword k s ≡ true → s ≡ symbol.Keyword k
 same_keyword k s is = by_one (is_one_of k s is)
   where
     by_one : IsOne k s → s ≡ symbol.Keyword k

@@ -8,3 +8,4 @@ pub mod ExactTerms
 pub mod ExactLists
 pub mod ExactParts
 pub mod ExactQueries
+pub mod ReadLemmas

@@ -4,3 +4,4 @@ pub mod Terms
 pub mod Lists
 pub mod Query
 pub mod Grammar
+pub mod Reads

@@ -1,5 +1,6 @@
 // Laws over all texts.
 ghost use Rattle.keeper_dialect.specs.Grammar.{NoTextIsTwoQueries, QueriesAreRead};
+ghost use Rattle.keeper_dialect.specs.Reads.{EachReadIsASelect};
 
 /// No text is two queries.
 pub fn no_text_is_two_queries()
@@ -9,4 +10,9 @@ pub fn no_text_is_two_queries()
 /// A text is read as the query that the grammar gives it, exactly where it gives one.
 pub fn queries_are_read()
     ensures { QueriesAreRead }
+{}
+
+/// A text whose class is `Read` is a select, where it is a query at all.
+pub fn each_read_is_a_select()
+    ensures { EachReadIsASelect }
 {}

@@ -3,3 +3,4 @@ pub mod FormulaLemmas
 pub mod RowLemmas
 pub mod TableLemmas
 pub mod ExecLemmas
+pub mod ClassLemmas

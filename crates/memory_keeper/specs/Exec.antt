@@ -1,5 +1,5 @@
 -- What a statement means on a database.
-use Rattle.std.specs.Prelude.{◌≡◌, ℕ, Bool, true, false, not, ◌||◌, IsTrue, List, [], ◌∷◌, ◌++◌, Option, Some, None, Result, Ok, Err, slice_get, slice_set, if◌then◌else◌}
+use Rattle.std.specs.Prelude.{◌≡◌, ℕ, Bool, true, not, ◌||◌, IsTrue, List, [], ◌∷◌, ◌++◌, Option, Some, None, Result, Ok, Err, slice_get, slice_set, if◌then◌else◌}
 use Rattle.std.specs.List.{position}
 use Rattle.std.specs.Option.{option_and_then}
 use Rattle.std.specs.Str.{str_eq_ignore_ascii_case}
@@ -14,6 +14,7 @@ use Rattle.keeper_dialect.specs.declared.query.Query.{Query}
 use Rattle.keeper_dialect.specs.declared.query.Query.TheVariants.{Create, Insert, Select, Update, Delete}
 use Rattle.sql_text.specs.declared.class.Class.{Class}
 use Rattle.keeper_dialect.specs.Query.{query_of}
+use Rattle.keeper_dialect.specs.Reads.{is_select}
 use Rattle.engine_core.specs.Engine.{is_read, is_engine_code}
 use Rattle.engine_core.specs.Transactions.{Single}
 use Rattle.engine_core.specs.declared.engine.Answer.{Answer}
@@ -66,15 +67,8 @@ run_query db bound (Delete name wanted) = on_table db name (λ t. table.delete t
 
 -- ---- statements
 
-abbrev pub is_select : Query → Bool
-is_select (Create name cols) = false
-is_select (Insert name names tuples) = false
-is_select (Select shown name wanted) = true
-is_select (Update name sets wanted) = false
-is_select (Delete name wanted) = false
-
 -- A statement of class `Read` may only read. A text has this class where it begins with `SELECT`, `VALUES` or `WITH`, and a
--- query that writes begins with another word, so this refuses nothing.
+-- query that writes begins with another word, so this refuses nothing: the law `class_refuses_nothing`.
 abbrev pub fits_class : Class → Query → Bool
 fits_class class query = not (is_read class) || is_select query
 
@@ -88,6 +82,11 @@ query_or_syntax (Err at) = Err Syntax
 
 abbrev pub outcome : List Table → BoundStmt → Result (List Table × StmtResult) Refusal
 outcome db stmt = run_parsed db stmt.class stmt.values (query_of stmt.sql)
+
+-- A statement's class is that of its text, so its query fits it, and the outcome is that of the query.
+pub record ClassRefusesNothing : Type 0 where
+  pub fits : (stmt : BoundStmt) (query : Query) → query_of stmt.sql ≡ Ok query → fits_class stmt.class query ≡ true
+  pub runs : (db : List Table) (stmt : BoundStmt) (query : Query) → query_of stmt.sql ≡ Ok query → outcome db stmt ≡ run_query db stmt.values query
 
 -- a refusal leaves the database
 abbrev pub ended : List Table → Result (List Table × StmtResult) Refusal → List Table × Answer

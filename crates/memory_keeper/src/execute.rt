@@ -3,8 +3,9 @@ ghost use Rattle.std.specs.Prelude.{◌≡◌, Ok, IfOk};
 ghost use Rattle.engine_core.specs.Engine.{is_read};
 ghost use Rattle.engine_core.specs.Results.{IsSmall};
 ghost use Rattle.keeper_dialect.specs.Query.{query_of};
+ghost use Rattle.keeper_dialect.specs.Reads.{is_select};
 ghost use Rattle.memory_keeper.specs.Each.{Gives, Changes};
-ghost use Rattle.memory_keeper.specs.Exec.{is_select, query_or_syntax, run_parsed, outcome, exec, RunsAs};
+ghost use Rattle.memory_keeper.specs.Exec.{query_or_syntax, run_parsed, outcome, exec, RunsAs};
 
 use crate::fail::{Fail, Refusal, code_of};
 use crate::queries::run_query;
