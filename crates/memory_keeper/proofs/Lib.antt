@@ -1,5 +1,6 @@
 pub mod EachLemmas
 pub mod FormulaLemmas
 pub mod RowLemmas
+pub mod KeyLemmas
 pub mod TableLemmas
 pub mod ExecLemmas
