@@ -8,6 +8,7 @@ mod fail;
 mod formulas;
 mod insert;
 mod keeper;
+mod keys;
 mod laws;
 mod queries;
 mod resolve;

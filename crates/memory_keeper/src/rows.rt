@@ -5,7 +5,7 @@ ghost use Rattle.engine_core.specs.Results.{IsSmall};
 ghost use Rattle.memory_keeper.specs.Each.{Gives};
 ghost use Rattle.memory_keeper.specs.Formulas.{assigned};
 ghost use Rattle.memory_keeper.specs.Values.{value_at, value_or_null, is_equal};
-ghost use Rattle.memory_keeper.specs.Tables.{is_chosen, stays, chosen_count, has_key, is_taken, breaks_key, keeps_key, done};
+ghost use Rattle.memory_keeper.specs.Tables.{is_chosen, stays, chosen_count, has_key, is_taken, breaks_key, done};
 
 use crate::fail::{Fail, Refusal};
 use crate::formulas::{Equation, formula_value, is_met};
@@ -107,18 +107,6 @@ pub fn breaks_key(key: Option<usize>, before: &[Row], rows: &[Row], values: &[Va
         None => false,
         Some(place) => is_taken(place, before, rows, values.get(place)),
     }
-}
-
-/// Whether no row breaks the key of those before it.
-pub fn keeps_key(key: Option<usize>, rows: &[Row]) -> bool
-    ensures { result ≡ keeps_key key [] rows.now }
-{
-    for (place, row) in rows.iter().enumerate() {
-        if breaks_key(key, &rows[..place], &[], row.values.as_slice()) {
-            return false;
-        }
-    }
-    true
 }
 
 /// What a statement without rows is answered.

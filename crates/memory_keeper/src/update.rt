@@ -6,8 +6,9 @@ ghost use Rattle.memory_keeper.specs.Tables.{renewal, renewed_row, all_renewed, 
 
 use crate::fail::{Fail, Refusal};
 use crate::formulas::Equation;
+use crate::keys::keeps_key;
 use crate::resolve::{condition_of, equations_of};
-use crate::rows::{assigned, done, is_chosen, keeps_key};
+use crate::rows::{assigned, done, is_chosen};
 use crate::tables::{Row, Table, TableRows};
 use hrana_stmt::StmtResult;
 use hrana_value::{NoMemory, Value, Values};
@@ -111,7 +112,7 @@ pub fn update(
         equations.as_slice(),
         table.rows.as_slice(),
     )?;
-    if !keeps_key(table.key, rows.as_slice()) {
+    if !keeps_key(alloc, table.key, rows.as_slice())? {
         return Err(Fail::Refused(Refusal::Constraint));
     }
     table.rows = TableRows::from_vec(rows);

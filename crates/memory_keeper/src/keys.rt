@@ -1,0 +1,132 @@
+// The places of rows by their keys, so that a key is found in a time that is logarithmic in the rows.
+ghost use Rattle.std.specs.Prelude.{◌≡◌, ℕ, ℤ, List, [], None, Some, ◌||◌, not, cond, is_some, IsTrue, IfOk, IfSome, OnOk};
+ghost use Rattle.std.specs.Option.{option_copied};
+ghost use Rattle.std.specs.BTreeMap.{get};
+ghost use Rattle.std.specs.Ordering.{int_cmp, int_eq};
+ghost use Rattle.std.specs.Str.{bytes_eq};
+ghost use Rattle.hrana_value.specs.declared.value.Value.{Value as SqlValue};
+ghost use Rattle.memory_keeper.specs.Keys.{place_of_bytes, place_of_key, HasKeysOf};
+ghost use Rattle.memory_keeper.specs.Tables.{keeps_key};
+ghost use Rattle.memory_keeper.specs.Values.{value_or_null, is_null, is_equal};
+
+use crate::formulas::value_at;
+use crate::tables::Row;
+use crate::values::is_null;
+use hrana_value::{NoMemory, Value};
+use std::alloc::Global;
+use std::collections::BTreeMap;
+
+/// The places of rows by their keys. A key that is null has no place.
+#[derive(Drop)]
+pub struct KeyIndex {
+    integers: BTreeMap<i64, usize>,
+    texts: BTreeMap<Vec<u8>, usize>,
+    blobs: BTreeMap<Vec<u8>, usize>,
+}
+
+fn put_vec(
+    places: &mut BTreeMap<Vec<u8>, usize>,
+    key: Vec<u8>,
+    place: usize,
+) -> Result<Option<usize>, NoMemory>
+    ensures old { IfOk result (λ old. old ≡ place_of_bytes places.old key.items) }
+    ensures puts { OnOk result ((bytes : List ℕ) → place_of_bytes places.new bytes ≡ cond (bytes_eq key.items bytes) (Some place) (place_of_bytes places.old bytes)) }
+{
+    Ok(places.insert(key, place)?)
+}
+
+fn copy_bytes(alloc: Global, bytes: &[u8]) -> Result<Vec<u8>, NoMemory>
+    ensures { IfOk result (λ copy. copy.items ≡ bytes.now) }
+{
+    let mut copy = Vec::new(alloc);
+    copy.extend_from_slice(bytes)?;
+    Ok(copy)
+}
+
+fn put_bytes(
+    alloc: Global,
+    places: &mut BTreeMap<Vec<u8>, usize>,
+    key: &[u8],
+    place: usize,
+) -> Result<Option<usize>, NoMemory>
+    ensures old { IfOk result (λ old. old ≡ place_of_bytes places.old key.now) }
+    ensures puts { OnOk result ((bytes : List ℕ) → place_of_bytes places.new bytes ≡ cond (bytes_eq key.now bytes) (Some place) (place_of_bytes places.old bytes)) }
+{
+    put_vec(places, copy_bytes(alloc, key)?, place)
+}
+
+fn put_integer(
+    places: &mut BTreeMap<i64, usize>,
+    key: i64,
+    place: usize,
+) -> Result<Option<usize>, NoMemory>
+    ensures old { IfOk result (λ old. old ≡ get int_cmp places.old key) }
+    ensures puts { OnOk result ((number : ℤ) → get int_cmp places.new number ≡ cond (int_eq key number) (Some place) (get int_cmp places.old number)) }
+{
+    Ok(places.insert(key, place)?)
+}
+
+impl KeyIndex {
+    fn new(alloc: Global) -> KeyIndex
+        ensures { (value : SqlValue) → place_of_key result value ≡ None }
+    {
+        KeyIndex {
+            integers: BTreeMap::new(alloc),
+            texts: BTreeMap::new(alloc),
+            blobs: BTreeMap::new(alloc),
+        }
+    }
+
+    /// Gives a key its place, and returns the one that it had.
+    fn put(&mut self, alloc: Global, key: &Value, place: usize) -> Result<Option<usize>, NoMemory>
+        ensures old { IfOk result (λ old. old ≡ place_of_key self.old key.now) }
+        ensures puts { OnOk result ((value : SqlValue) → place_of_key self.new value ≡ cond (is_equal key.now value) (Some place) (place_of_key self.old value)) }
+    {
+        match key {
+            Value::Null => Ok(None),
+            Value::Integer(number) => put_integer(&mut self.integers, *number, place),
+            Value::Text(text) => {
+                put_bytes(alloc, &mut self.texts, text.as_str().as_bytes(), place)
+            }
+            Value::Blob(bytes) => put_bytes(alloc, &mut self.blobs, bytes.as_slice(), place),
+        }
+    }
+
+    /// Gives a key its place, and says whether that was new: it isn't null, and had no place.
+    fn add(&mut self, alloc: Global, key: Option<&Value>, place: usize) -> Result<bool, NoMemory>
+        ensures added { IfOk result (λ added. added ≡ not (is_null (value_or_null (option_copied key.entry)) || is_some (place_of_key self.old (value_or_null (option_copied key.entry))))) }
+        ensures adds { IfOk result (λ added. IsTrue added → (value : SqlValue) → is_some (place_of_key self.new value) ≡ (is_some (place_of_key self.old value) || is_equal (value_or_null (option_copied key.entry)) value)) }
+    {
+        let Some(key) = key else {
+            return Ok(false);
+        };
+        if is_null(key) {
+            return Ok(false);
+        }
+        Ok(self.put(alloc, key, place)?.is_none())
+    }
+
+    /// The index of rows by the key at a place, if no row breaks the key of those before it.
+    pub fn of_rows(alloc: Global, place: usize, rows: &[Row]) -> Result<Option<KeyIndex>, NoMemory>
+        ensures kept { IfOk result (λ found. is_some found ≡ keeps_key (Some place) [] rows.now) }
+        ensures keys { IfOk result (λ found. IfSome found (λ index. HasKeysOf index place rows.now)) }
+    {
+        let mut index = KeyIndex::new(alloc);
+        for (number, row) in rows.iter().enumerate() {
+            if !index.add(alloc, value_at(row.values.as_slice(), place), number)? {
+                return Ok(None);
+            }
+        }
+        Ok(Some(index))
+    }
+}
+
+/// Whether no row breaks the key of those before it.
+pub fn keeps_key(alloc: Global, key: Option<usize>, rows: &[Row]) -> Result<bool, NoMemory>
+    ensures { IfOk result (λ kept. kept ≡ keeps_key key [] rows.now) }
+{
+    match key {
+        None => Ok(true),
+        Some(place) => Ok(KeyIndex::of_rows(alloc, place, rows)?.is_some()),
+    }
+}
