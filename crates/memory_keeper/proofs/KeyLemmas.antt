@@ -8,7 +8,7 @@ use Rattle.std.specs.Ordering.{is_eq, nat_cmp}
 use Rattle.std.specs.Str.{bytes_eq}
 use Rattle.std.proofs.lemmas.Bool.{cases_Bool, cond-true, cond-false}
 use Rattle.std.proofs.lemmas.Map.Text.{is_eq-slice_cmp}
-use Rattle.std.proofs.lemmas.List.{take_more, drop_more}
+use Rattle.std.proofs.lemmas.List.{take_more, drop_more, append_assoc}
 use Rattle.std.proofs.lemmas.List.Folds.{list_any-append}
 use Rattle.hrana_value.specs.declared.value.Value.{Value}
 use Rattle.memory_keeper.specs.declared.keys.KeyIndex.{KeyIndex}
@@ -38,27 +38,30 @@ keeps_no_key before [] = refl
 keeps_no_key before (row ∷ rows) = keeps_no_key (before ++ row ∷ []) rows
 
 -- the rows before one more
-row_behind : (rows : List Row) (i : ℕ) (row : Row) → i < length rows → row ≡ get_or rows i row → take (i + 1) rows ≡ take i rows ++ row ∷ []
-row_behind rows i row h is = take_more rows i row h ∙ ap (λ z. take i rows ++ z ∷ []) (sym is)
+row_behind : (before rows : List Row) (i : ℕ) (row : Row) → i < length rows → row ≡ get_or rows i row → before ++ take (i + 1) rows ≡ (before ++ take i rows) ++ row ∷ []
+row_behind before rows i row h is = ap (λ l. before ++ l) (take_more rows i row h ∙ ap (λ z. take i rows ++ z ∷ []) (sym is)) ∙ sym (append_assoc before (take i rows) (row ∷ []))
 
 -- one more row, whose key may be new
-pub keeps_key_more : (index : KeyIndex) (place : ℕ) (rows : List Row) (i : ℕ) (row : Row) (key : Value) (added : Bool) → i < length rows → row ≡ get_or rows i row → key ≡ value_at row.values place → HasKeysOf index place (take i rows) → added ≡ not (is_null key || is_some (place_of_key index key)) → keeps_key (Some place) (take i rows) (drop i rows) ≡ (added && keeps_key (Some place) (take (i + 1) rows) (drop (i + 1) rows))
-keeps_key_more index place rows i row key added h is key_is has added_is =
-    ap (keeps_key (Some place) (take i rows)) (drop_more rows i row h ∙ ap (λ z. z ∷ drop (i + 1) rows) (sym is))
-    ∙ ap (λ before. not (is_null (value_at row.values place) || has_key place (take i rows) (value_at row.values place)) && keeps_key (Some place) before (drop (i + 1) rows)) (sym (row_behind rows i row h is))
-    ∙ ap (λ v. not (is_null v || has_key place (take i rows) v) && keeps_key (Some place) (take (i + 1) rows) (drop (i + 1) rows)) (sym key_is)
-    ∙ ap (λ b. not (is_null key || b) && keeps_key (Some place) (take (i + 1) rows) (drop (i + 1) rows)) (sym (has key))
-    ∙ ap (λ b. b && keeps_key (Some place) (take (i + 1) rows) (drop (i + 1) rows)) (sym added_is)
+pub keeps_key_more : (index : KeyIndex) (before rows : List Row) (i : ℕ) (row : Row) (key : Value) (added : Bool) → i < length rows → row ≡ get_or rows i row → key ≡ value_at row.values index.place → HasKeysOf index (before ++ take i rows) → added ≡ not (is_null key || is_some (place_of_key index key)) → keeps_key (Some index.place) (before ++ take i rows) (drop i rows) ≡ (added && keeps_key (Some index.place) (before ++ take (i + 1) rows) (drop (i + 1) rows))
+keeps_key_more index before rows i row key added h is key_is has added_is =
+    let place = index.place in
+    ap (keeps_key (Some place) (before ++ take i rows)) (drop_more rows i row h ∙ ap (λ z. z ∷ drop (i + 1) rows) (sym is))
+    ∙ ap (λ b. not (is_null (value_at row.values place) || has_key place (before ++ take i rows) (value_at row.values place)) && keeps_key (Some place) b (drop (i + 1) rows)) (sym (row_behind before rows i row h is))
+    ∙ ap (λ v. not (is_null v || has_key place (before ++ take i rows) v) && keeps_key (Some place) (before ++ take (i + 1) rows) (drop (i + 1) rows)) (sym key_is)
+    ∙ ap (λ b. not (is_null key || b) && keeps_key (Some place) (before ++ take (i + 1) rows) (drop (i + 1) rows)) (sym (has key))
+    ∙ ap (λ b. b && keeps_key (Some place) (before ++ take (i + 1) rows) (drop (i + 1) rows)) (sym added_is)
 
 or_false : (a : Bool) → (a || false) ≡ a
 or_false true = refl
 or_false false = refl
 
-pub has_keys_more : (index new : KeyIndex) (place : ℕ) (rows : List Row) (i : ℕ) (row : Row) (key : Value) → i < length rows → row ≡ get_or rows i row → key ≡ value_at row.values place → HasKeysOf index place (take i rows) → ((value : Value) → is_some (place_of_key new value) ≡ (is_some (place_of_key index value) || is_equal key value)) → HasKeysOf new place (take (i + 1) rows)
-has_keys_more index new place rows i row key h is key_is has adds value =
+pub has_keys_more : (index new : KeyIndex) (before rows : List Row) (i : ℕ) (row : Row) (key : Value) → i < length rows → row ≡ get_or rows i row → key ≡ value_at row.values index.place → new.place ≡ index.place → HasKeysOf index (before ++ take i rows) → ((value : Value) → is_some (place_of_key new value) ≡ (is_some (place_of_key index value) || is_equal key value)) → HasKeysOf new (before ++ take (i + 1) rows)
+has_keys_more index new before rows i row key h is key_is same has adds value =
+    let place = index.place in
     adds value
     ∙ ap (λ b. b || is_equal key value) (has value)
-    ∙ ap (λ v. has_key place (take i rows) value || is_equal v value) key_is
-    ∙ ap (λ b. has_key place (take i rows) value || b) (sym (or_false (is_equal (value_at row.values place) value)))
-    ∙ sym (list_any-append (λ (r : Row). is_equal (value_at r.values place) value) (take i rows) (row ∷ []))
-    ∙ ap (λ l. has_key place l value) (sym (row_behind rows i row h is))
+    ∙ ap (λ v. has_key place (before ++ take i rows) value || is_equal v value) key_is
+    ∙ ap (λ b. has_key place (before ++ take i rows) value || b) (sym (or_false (is_equal (value_at row.values place) value)))
+    ∙ sym (list_any-append (λ (r : Row). is_equal (value_at r.values place) value) (before ++ take i rows) (row ∷ []))
+    ∙ ap (λ l. has_key place l value) (sym (row_behind before rows i row h is))
+    ∙ ap (λ p. has_key p (before ++ take (i + 1) rows) value) (sym same)

@@ -9,7 +9,7 @@ ghost use Rattle.memory_keeper.specs.Tables.{is_chosen, stays, chosen_count, has
 
 use crate::fail::{Fail, Refusal};
 use crate::formulas::{Equation, formula_value, is_met};
-use crate::tables::Row;
+use crate::tables::{Row, TableRows};
 use crate::values::{is_equal, is_null};
 use hrana_stmt::{Cols, Rows, StmtResult};
 use hrana_value::{Value, Values};
@@ -84,7 +84,7 @@ pub fn has_key(place: usize, rows: &[Row], value: &Value) -> bool
 }
 
 /// Whether a key is null or missing, or that of a row before these or among them.
-fn is_taken(place: usize, before: &[Row], rows: &[Row], key: Option<&Value>) -> bool
+fn is_taken(place: usize, before: &TableRows, rows: &TableRows, key: Option<&Value>) -> bool
     ensures { result ≡ is_taken place (before.now ++ rows.now) (value_or_null (option_copied key.entry)) }
 {
     let Some(key) = key else {
@@ -93,14 +93,19 @@ fn is_taken(place: usize, before: &[Row], rows: &[Row], key: Option<&Value>) -> 
     if is_null(key) {
         return true;
     }
-    if has_key(place, before, key) {
+    if before.has_key(place, key) {
         return true;
     }
-    has_key(place, rows, key)
+    rows.has_key(place, key)
 }
 
 /// Whether the key of a new row is null, or that of a row before these or among them.
-pub fn breaks_key(key: Option<usize>, before: &[Row], rows: &[Row], values: &[Value]) -> bool
+pub fn breaks_key(
+    key: Option<usize>,
+    before: &TableRows,
+    rows: &TableRows,
+    values: &[Value],
+) -> bool
     ensures { result ≡ breaks_key key (before.now ++ rows.now) values.now }
 {
     match key {

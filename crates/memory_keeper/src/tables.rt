@@ -1,15 +1,18 @@
 // Tables and their rows.
-ghost use Rattle.std.specs.Prelude.{◌≡◌, [], ◌++◌, OnOk, OnErr, IfOk, filter};
+ghost use Rattle.std.specs.Prelude.{◌≡◌, List, [], ◌∷◌, ◌++◌, OnOk, OnErr, IfOk, IfSome, is_some, filter};
 ghost use Rattle.engine_core.specs.Results.{IsSmall};
-ghost use Rattle.memory_keeper.specs.Tables.{stays};
+ghost use Rattle.memory_keeper.specs.declared.tables.Row.{Row};
+ghost use Rattle.memory_keeper.specs.Keys.{Indexes};
+ghost use Rattle.memory_keeper.specs.Tables.{stays, has_key, keeps_key};
 ghost use Rattle.memory_keeper.specs.Exec.{exec, RunsAs};
 
 use crate::execute::execute;
 use crate::formulas::Equation;
-use crate::rows::stays;
+use crate::keys::KeyIndex;
+use crate::rows::{has_key, stays};
 use engine_core::{BoundStmt, EngineFail};
 use hrana_stmt::StmtResult;
-use hrana_value::{NoMemory, Txt, Values};
+use hrana_value::{NoMemory, Txt, Value, Values};
 use keeper_dialect::NameList;
 use std::alloc::Global;
 use std::marker::Model;
@@ -32,19 +35,24 @@ impl Row {
     }
 }
 
-/// The rows of a table, in the order of their rowids.
+/// The rows of a table, in the order of their rowids, with an index of their keys where there is a key. Where memory was
+/// wanting the index is left out, and a key is searched for row by row.
 #[derive(Debug, Drop)]
 pub struct TableRows {
     items: Vec<Row>,
+    index: Option<KeyIndex>,
 }
 
 impl Model for TableRows {
     ghost use Rattle.std.specs.Prelude.{List};
     ghost use Rattle.memory_keeper.specs.declared.tables.Row.{Row};
+    ghost use Rattle.memory_keeper.specs.Keys.{Indexes};
 
     ghost Value = { List Row };
 
     ghost view = { λ rows. rows.items.items };
+
+    ghost invariant = { λ rows. Indexes rows.index rows.items.items };
 }
 
 fn retain_rows(rows: &mut Vec<Row>, condition: &Option<Equation>)
@@ -53,20 +61,58 @@ fn retain_rows(rows: &mut Vec<Row>, condition: &Option<Equation>)
     rows.retain(|row| stays(condition, row));
 }
 
+/// An index with more rows, from a place on; none where one of them breaks the key, or memory is wanting.
+fn grown_index(
+    alloc: Global,
+    index: Option<KeyIndex>,
+    start: usize,
+    rows: &[Row],
+) -> Option<KeyIndex>
+    ensures { (before : List Row) → Indexes index before → Indexes result (before ++ rows.now) }
+{
+    let Some(mut index) = index else {
+        return None;
+    };
+    match index.add_rows(alloc, start, rows) {
+        Ok(true) => Some(index),
+        _ => None,
+    }
+}
+
 impl TableRows {
-    pub fn new(alloc: Global) -> TableRows
+    /// No rows, with an index if there is a key.
+    pub fn new(alloc: Global, key: Option<usize>) -> TableRows
         ensures { result ≡ [] }
     {
+        let index = match key {
+            Some(place) => Some(KeyIndex::new(alloc, place)),
+            None => None,
+        };
         TableRows {
             items: Vec::new(alloc),
+            index,
         }
     }
 
-    /// The rows themselves, with no copy.
-    pub fn from_vec(items: Vec<Row>) -> TableRows
-        ensures { result ≡ items.items }
+    /// The rows themselves, with no copy, if none breaks the key of those before it.
+    pub fn with_key(
+        alloc: Global,
+        key: Option<usize>,
+        items: Vec<Row>,
+    ) -> Result<Option<TableRows>, NoMemory>
+        ensures kept { IfOk result (λ found. is_some found ≡ keeps_key key [] items.items) }
+        ensures rows { IfOk result (λ found. IfSome found (λ rows. rows ≡ items.items)) }
     {
-        TableRows { items }
+        let Some(place) = key else {
+            return Ok(Some(TableRows { items, index: None }));
+        };
+        match KeyIndex::of_rows(alloc, place, items.as_slice())? {
+            Some(index) => Ok(Some(TableRows {
+                items,
+                index: Some(index),
+            })),
+            None => Ok(None),
+        }
     }
 
     pub fn as_slice(&self) -> &[Row]
@@ -75,24 +121,77 @@ impl TableRows {
         self.items.as_slice()
     }
 
+    pub fn into_vec(self) -> Vec<Row>
+        ensures { result.items ≡ self }
+    {
+        self.items
+    }
+
+    /// Makes an index for the key, if there is none. Where memory is wanting there is none afterwards either.
+    pub fn index_by(&mut self, alloc: Global, key: Option<usize>)
+        ensures { self.new ≡ self.old }
+    {
+        let Some(place) = key else {
+            return;
+        };
+        if self.index.is_some() {
+            return;
+        }
+        if let Ok(found) = KeyIndex::of_rows(alloc, place, self.items.as_slice()) {
+            self.index = found;
+        }
+    }
+
+    /// Whether a row has this key.
+    pub fn has_key(&self, place: usize, key: &Value) -> bool
+        ensures { result ≡ has_key place self.now key.now }
+    {
+        match &self.index {
+            Some(index) => {
+                if index.place == place {
+                    index.get(key).is_some()
+                } else {
+                    has_key(place, self.items.as_slice(), key)
+                }
+            }
+            None => has_key(place, self.items.as_slice(), key),
+        }
+    }
+
+    /// Puts a row at the end. What is refused is dropped.
+    pub fn push(&mut self, alloc: Global, row: Row) -> Result<(), NoMemory>
+        ensures ok { OnOk result (self.new ≡ self.old ++ row ∷ []) }
+        ensures err { OnErr result (self.new ≡ self.old) }
+    {
+        let mut rows = Vec::new(alloc);
+        rows.push(row)?;
+        self.append(alloc, rows)
+    }
+
     /// Puts rows at the end: all of them, or none.
-    pub fn append(&mut self, mut rows: Vec<Row>) -> Result<(), NoMemory>
+    pub fn append(&mut self, alloc: Global, mut rows: Vec<Row>) -> Result<(), NoMemory>
         ensures ok { OnOk result (self.new ≡ self.old ++ rows.items) }
         ensures err { OnErr result (self.new ≡ self.old) }
     {
+        let index = grown_index(alloc, self.index.take(), self.items.len(), rows.as_slice());
         match self.items.append(&mut rows) {
-            Ok(()) => Ok(()),
+            Ok(()) => {
+                self.index = index;
+                Ok(())
+            }
             Err(_) => Err(NoMemory),
         }
     }
 
-    /// Removes the rows that the condition chooses.
+    /// Removes the rows that the condition chooses, and the index.
     pub fn remove_chosen(&mut self, condition: &Option<Equation>)
         ensures { self.new ≡ filter (stays condition.now) self.old }
     {
+        self.index = None;
         retain_rows(&mut self.items, condition);
     }
 
+    /// The rows without an index.
     pub fn copy(&self, alloc: Global) -> Result<TableRows, NoMemory>
         ensures { IfOk result (λ copy. copy ≡ self.now) }
     {
@@ -100,7 +199,10 @@ impl TableRows {
         for row in self.as_slice() {
             copies.push(row.copy(alloc)?)?;
         }
-        Ok(TableRows { items: copies })
+        Ok(TableRows {
+            items: copies,
+            index: None,
+        })
     }
 }
 
