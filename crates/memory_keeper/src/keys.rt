@@ -1,14 +1,14 @@
 // The places of rows by their keys, so that a key is found in a time that is logarithmic in the rows.
-ghost use Rattle.std.specs.Prelude.{◌≡◌, ℕ, ℤ, List, [], None, Some, ◌++◌, ◌||◌, not, cond, is_some, IsTrue, IfOk, IfSome, OnOk};
+ghost use Rattle.std.specs.Prelude.{◌≡◌, ◌+◌, ◌<◌, ◌^◌, length, take, drop, ℕ, ℤ, List, [], None, Some, ◌++◌, ◌||◌, not, cond, is_some, IsTrue, IfOk, IfSome, OnOk};
 ghost use Rattle.std.specs.Option.{option_copied};
 ghost use Rattle.std.specs.BTreeMap.{get};
 ghost use Rattle.std.specs.Ordering.{int_cmp, int_eq};
 ghost use Rattle.std.specs.Str.{bytes_eq};
 ghost use Rattle.hrana_value.specs.declared.value.Value.{Value as SqlValue};
-ghost use Rattle.memory_keeper.specs.Keys.{place_of_bytes, place_of_key, HasKeysOf};
+ghost use Rattle.memory_keeper.specs.Keys.{place_of_bytes, place_of_key, HasKeysOf, FindsOnly, Narrows};
 ghost use Rattle.memory_keeper.specs.declared.tables.Row.{Row};
 ghost use Rattle.memory_keeper.specs.Tables.{keeps_key};
-ghost use Rattle.memory_keeper.specs.Values.{value_or_null, is_null, is_equal};
+ghost use Rattle.memory_keeper.specs.Values.{value_at, value_or_null, is_null, is_equal};
 
 use crate::formulas::value_at;
 use crate::tables::Row;
@@ -115,6 +115,7 @@ impl KeyIndex {
     fn add(&mut self, alloc: Global, key: Option<&Value>, place: usize) -> Result<bool, NoMemory>
         ensures added { IfOk result (λ added. added ≡ not (is_null (value_or_null (option_copied key.entry)) || is_some (place_of_key self.old (value_or_null (option_copied key.entry))))) }
         ensures adds { IfOk result (λ added. IsTrue added → (value : SqlValue) → is_some (place_of_key self.new value) ≡ (is_some (place_of_key self.old value) || is_equal (value_or_null (option_copied key.entry)) value)) }
+        ensures puts { IfOk result (λ added. IsTrue added → (value : SqlValue) → place_of_key self.new value ≡ cond (is_equal (value_or_null (option_copied key.entry)) value) (Some place) (place_of_key self.old value)) }
         ensures column { self.new.place ≡ self.old.place }
     {
         let Some(key) = key else {
@@ -128,13 +129,15 @@ impl KeyIndex {
 
     /// Adds the rows from a place on, and says whether none breaks the key of those before it. It stops at one that does.
     pub fn add_rows(&mut self, alloc: Global, start: usize, rows: &[Row]) -> Result<bool, NoMemory>
+        requires { start + length rows.now < 2 ^ 64 }
         ensures kept { IfOk result (λ kept. (before : List Row) → HasKeysOf self.old before → kept ≡ keeps_key (Some self.old.place) before rows.now) }
         ensures keys { IfOk result (λ kept. IsTrue kept → (before : List Row) → HasKeysOf self.old before → HasKeysOf self.new (before ++ rows.now)) }
+        ensures finds { IfOk result (λ kept. IsTrue kept → (before : List Row) → HasKeysOf self.old before → FindsOnly self.old before → start ≡ length before → FindsOnly self.new (before ++ rows.now)) }
         ensures column { self.new.place ≡ self.old.place }
     {
         for (number, row) in rows.iter().enumerate() {
             let key = value_at(row.values.as_slice(), self.place);
-            if !self.add(alloc, key, start.saturating_add(number))? {
+            if !self.add(alloc, key, start + number)? {
                 return Ok(false);
             }
         }
@@ -145,6 +148,7 @@ impl KeyIndex {
     pub fn of_rows(alloc: Global, place: usize, rows: &[Row]) -> Result<Option<KeyIndex>, NoMemory>
         ensures kept { IfOk result (λ found. is_some found ≡ keeps_key (Some place) [] rows.now) }
         ensures keys { IfOk result (λ found. IfSome found (λ index. HasKeysOf index rows.now)) }
+        ensures finds { IfOk result (λ found. IfSome found (λ index. FindsOnly index rows.now)) }
         ensures place { IfOk result (λ found. IfSome found (λ index. index.place ≡ place)) }
     {
         let mut index = KeyIndex::new(alloc, place);
@@ -153,5 +157,25 @@ impl KeyIndex {
         } else {
             Ok(None)
         }
+    }
+}
+
+/// The row at a place alone.
+fn row_at(rows: &[Row], place: usize) -> &[Row]
+    requires { place < length rows.now }
+    ensures { rows.now ≡ take place rows.now ++ result.now ++ drop (place + 1) rows.now }
+{
+    &rows[place..place + 1]
+}
+
+/// The row with a key, or none.
+pub fn rows_with_key<'a>(rows: &'a [Row], index: &KeyIndex, key: &Value) -> &'a [Row]
+    requires keys { HasKeysOf index.now rows.now }
+    requires finds { FindsOnly index.now rows.now }
+    ensures { Narrows (λ row. is_equal (value_at row.values index.now.place) key.now) result.now rows.now }
+{
+    match index.get(key) {
+        Some(place) => row_at(rows, place),
+        None => &rows[..0],
     }
 }

@@ -1,14 +1,15 @@
 // Which rows a condition chooses, and what is made of them.
-ghost use Rattle.std.specs.Prelude.{◌≡◌, ◌≤◌, [], ◌++◌, length, IfOk};
+ghost use Rattle.std.specs.Prelude.{◌≡◌, ◌≤◌, [], ◌++◌, length, Ok, IfOk, IfSome};
 ghost use Rattle.std.specs.Option.{option_copied};
 ghost use Rattle.engine_core.specs.Results.{IsSmall};
+ghost use Rattle.memory_keeper.specs.declared.tables.Row.{Row};
 ghost use Rattle.memory_keeper.specs.Each.{Gives};
 ghost use Rattle.memory_keeper.specs.Formulas.{assigned};
 ghost use Rattle.memory_keeper.specs.Values.{value_at, value_or_null, is_equal};
 ghost use Rattle.memory_keeper.specs.Tables.{is_chosen, stays, chosen_count, has_key, is_taken, breaks_key, done};
 
 use crate::fail::{Fail, Refusal};
-use crate::formulas::{Equation, formula_value, is_met};
+use crate::formulas::{Equation, Operand, formula_value, is_met};
 use crate::tables::{Row, TableRows};
 use crate::values::{is_equal, is_null};
 use hrana_stmt::{Cols, Rows, StmtResult};
@@ -32,6 +33,22 @@ pub fn stays(condition: &Option<Equation>, row: &Row) -> bool
     match is_chosen(condition, row) {
         Ok(chosen) => !chosen,
         Err(_) => true,
+    }
+}
+
+/// The constant that the column at a place has to be equal to where a condition chooses a row, if the condition is of that form.
+pub fn constant_of(place: usize, condition: &Option<Equation>) -> Option<&Value>
+    ensures { IfSome result (λ value. (row : Row) → is_chosen condition.now row ≡ Ok (is_equal (value_at row.values place) value.now)) }
+{
+    let Some(equation) = condition else {
+        return None;
+    };
+    if equation.place != place {
+        return None;
+    }
+    match (equation.formula.rest.as_slice(), &equation.formula.first) {
+        ([], Operand::Constant(value)) => Some(value),
+        _ => None,
     }
 }
 

@@ -1,15 +1,16 @@
 // Tables and their rows.
-ghost use Rattle.std.specs.Prelude.{◌≡◌, List, [], ◌∷◌, ◌++◌, OnOk, OnErr, IfOk, IfSome, is_some, filter};
+ghost use Rattle.std.specs.Prelude.{◌≡◌, ◌+◌, ◌<◌, ◌^◌, length, List, [], ◌∷◌, ◌++◌, OnOk, OnErr, IfOk, IfSome, is_some, filter};
 ghost use Rattle.engine_core.specs.Results.{IsSmall};
+ghost use Rattle.memory_keeper.specs.declared.formulas.Picture.{Picture};
 ghost use Rattle.memory_keeper.specs.declared.tables.Row.{Row};
-ghost use Rattle.memory_keeper.specs.Keys.{Indexes};
-ghost use Rattle.memory_keeper.specs.Tables.{stays, has_key, keeps_key};
+ghost use Rattle.memory_keeper.specs.Keys.{Indexes, HasKeysOf, FindsOnly};
+ghost use Rattle.memory_keeper.specs.Tables.{stays, has_key, keeps_key, shown_rows};
 ghost use Rattle.memory_keeper.specs.Exec.{exec, RunsAs};
 
 use crate::execute::execute;
 use crate::formulas::Equation;
-use crate::keys::KeyIndex;
-use crate::rows::{has_key, stays};
+use crate::keys::{KeyIndex, rows_with_key};
+use crate::rows::{constant_of, has_key, stays};
 use engine_core::{BoundStmt, EngineFail};
 use hrana_stmt::StmtResult;
 use hrana_value::{NoMemory, Txt, Value, Values};
@@ -61,6 +62,16 @@ fn retain_rows(rows: &mut Vec<Row>, condition: &Option<Equation>)
     rows.retain(|row| stays(condition, row));
 }
 
+/// An index of rows; none where one of them breaks the key of those before it, or memory is wanting.
+fn index_of(alloc: Global, place: usize, rows: &[Row]) -> Option<KeyIndex>
+    ensures { Indexes result rows.now }
+{
+    match KeyIndex::of_rows(alloc, place, rows) {
+        Ok(found) => found,
+        Err(_) => None,
+    }
+}
+
 /// An index with more rows, from a place on; none where one of them breaks the key, or memory is wanting.
 fn grown_index(
     alloc: Global,
@@ -68,7 +79,8 @@ fn grown_index(
     start: usize,
     rows: &[Row],
 ) -> Option<KeyIndex>
-    ensures { (before : List Row) → Indexes index before → Indexes result (before ++ rows.now) }
+    requires { start + length rows.now < 2 ^ 64 }
+    ensures { (before : List Row) → Indexes index before → start ≡ length before → Indexes result (before ++ rows.now) }
 {
     let Some(mut index) = index else {
         return None;
@@ -76,6 +88,18 @@ fn grown_index(
     match index.add_rows(alloc, start, rows) {
         Ok(true) => Some(index),
         _ => None,
+    }
+}
+
+/// The row that a condition may choose, where it says that the key is a constant, else all rows.
+fn narrowed<'a>(rows: &'a [Row], index: &KeyIndex, condition: &Option<Equation>) -> &'a [Row]
+    requires keys { HasKeysOf index.now rows.now }
+    requires finds { FindsOnly index.now rows.now }
+    ensures { (picture : Picture) → shown_rows picture condition.now result.now ≡ shown_rows picture condition.now rows.now }
+{
+    match constant_of(index.place, condition) {
+        Some(key) => rows_with_key(rows, index, key),
+        None => rows,
     }
 }
 
@@ -137,9 +161,7 @@ impl TableRows {
         if self.index.is_some() {
             return;
         }
-        if let Ok(found) = KeyIndex::of_rows(alloc, place, self.items.as_slice()) {
-            self.index = found;
-        }
+        self.index = index_of(alloc, place, self.items.as_slice());
     }
 
     /// Whether a row has this key.
@@ -155,6 +177,17 @@ impl TableRows {
                 }
             }
             None => has_key(place, self.items.as_slice(), key),
+        }
+    }
+
+    /// Rows of which a condition chooses what it chooses of all: the row with the key, where the condition says that the key
+    /// is a constant, else all rows.
+    pub fn candidates(&self, condition: &Option<Equation>) -> &[Row]
+        ensures { (picture : Picture) → shown_rows picture condition.now result.now ≡ shown_rows picture condition.now self.now }
+    {
+        match &self.index {
+            Some(index) => narrowed(self.items.as_slice(), index, condition),
+            None => self.items.as_slice(),
         }
     }
 
@@ -191,7 +224,7 @@ impl TableRows {
         retain_rows(&mut self.items, condition);
     }
 
-    /// The rows without an index.
+    /// A copy, with an index of its own if there is one.
     pub fn copy(&self, alloc: Global) -> Result<TableRows, NoMemory>
         ensures { IfOk result (λ copy. copy ≡ self.now) }
     {
@@ -199,9 +232,13 @@ impl TableRows {
         for row in self.as_slice() {
             copies.push(row.copy(alloc)?)?;
         }
+        let index = match &self.index {
+            Some(index) => index_of(alloc, index.place, copies.as_slice()),
+            None => None,
+        };
         Ok(TableRows {
             items: copies,
-            index: None,
+            index,
         })
     }
 }
