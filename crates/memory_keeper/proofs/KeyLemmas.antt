@@ -1,18 +1,21 @@
 -- Lemmas on the places of rows by their keys.
-use Rattle.std.proofs.Common.{◌≡◌, ℕ, ◌+◌, ◌<◌, Bool, true, false, cond, not, ◌&&◌, ◌||◌, is_some, length, get_or, take, drop, List, [], ◌∷◌, ◌++◌, Option, Some, None, refl, sym, ap, subst, ◌∙◌, ⊎_elim}
+use Rattle.std.proofs.Common.{◌≡◌, ℕ, ◌+◌, ◌<◌, ◌≤◌, true≢false, length-append, arith, Bool, true, false, cond, not, ◌&&◌, ◌||◌, is_some, length, get_or, take, drop, List, [], ◌∷◌, ◌++◌, Option, Some, None, refl, sym, ap, subst, ◌∙◌, ⊎_elim}
 use Rattle.std.specs.BTreeMap.{BTreeMap, get_by, UpdatesBy}
 use Rattle.std.specs.Cmp.Lexicographic.{slice_cmp, bytes_decides, nat_list_cmp_total, nat_list_eq_equiv}
-use Rattle.std.specs.Cmp.{eq_by_cmp_equiv}
+use Rattle.std.specs.Cmp.{eq_by_cmp_equiv, signed_Decides}
+use Rattle.std.specs.List.{list_any}
 use Rattle.std.specs.Map.{lookup, IsKeyTest, AreApart, KeepsOthers}
 use Rattle.std.specs.Ordering.{is_eq, nat_cmp}
 use Rattle.std.specs.Str.{bytes_eq}
 use Rattle.std.proofs.lemmas.Bool.{cases_Bool, cond-true, cond-false}
 use Rattle.std.proofs.lemmas.Map.Text.{is_eq-slice_cmp}
-use Rattle.std.proofs.lemmas.List.{take_more, drop_more}
+use Rattle.std.proofs.lemmas.List.{take_more, drop_more, append_assoc, take-append-le, drop-append-le, take-append-drop, drop-drop}
+use Rattle.std.proofs.Math.Seq.{take-append_seam, drop-append-add}
+use Rattle.hrana_value.specs.declared.value.Value.TheVariants.{Null, Integer, Text, Blob}
 use Rattle.std.proofs.lemmas.List.Folds.{list_any-append}
 use Rattle.hrana_value.specs.declared.value.Value.{Value}
 use Rattle.memory_keeper.specs.declared.keys.KeyIndex.{KeyIndex}
-use Rattle.memory_keeper.specs.Keys.{place_of_key, HasKeysOf}
+use Rattle.memory_keeper.specs.Keys.{place_of_key, HasKeysOf, FindsOnly, IsOnly}
 use Rattle.memory_keeper.specs.Values.{value_at, is_null, is_equal}
 use Rattle.memory_keeper.specs.declared.tables.Row.{Row}
 use Rattle.memory_keeper.specs.Tables.{has_key, keeps_key}
@@ -38,27 +41,101 @@ keeps_no_key before [] = refl
 keeps_no_key before (row ∷ rows) = keeps_no_key (before ++ row ∷ []) rows
 
 -- the rows before one more
-row_behind : (rows : List Row) (i : ℕ) (row : Row) → i < length rows → row ≡ get_or rows i row → take (i + 1) rows ≡ take i rows ++ row ∷ []
-row_behind rows i row h is = take_more rows i row h ∙ ap (λ z. take i rows ++ z ∷ []) (sym is)
+row_behind : (before rows : List Row) (i : ℕ) (row : Row) → i < length rows → row ≡ get_or rows i row → before ++ take (i + 1) rows ≡ (before ++ take i rows) ++ row ∷ []
+row_behind before rows i row h is = ap (λ l. before ++ l) (take_more rows i row h ∙ ap (λ z. take i rows ++ z ∷ []) (sym is)) ∙ sym (append_assoc before (take i rows) (row ∷ []))
 
 -- one more row, whose key may be new
-pub keeps_key_more : (index : KeyIndex) (place : ℕ) (rows : List Row) (i : ℕ) (row : Row) (key : Value) (added : Bool) → i < length rows → row ≡ get_or rows i row → key ≡ value_at row.values place → HasKeysOf index place (take i rows) → added ≡ not (is_null key || is_some (place_of_key index key)) → keeps_key (Some place) (take i rows) (drop i rows) ≡ (added && keeps_key (Some place) (take (i + 1) rows) (drop (i + 1) rows))
-keeps_key_more index place rows i row key added h is key_is has added_is =
-    ap (keeps_key (Some place) (take i rows)) (drop_more rows i row h ∙ ap (λ z. z ∷ drop (i + 1) rows) (sym is))
-    ∙ ap (λ before. not (is_null (value_at row.values place) || has_key place (take i rows) (value_at row.values place)) && keeps_key (Some place) before (drop (i + 1) rows)) (sym (row_behind rows i row h is))
-    ∙ ap (λ v. not (is_null v || has_key place (take i rows) v) && keeps_key (Some place) (take (i + 1) rows) (drop (i + 1) rows)) (sym key_is)
-    ∙ ap (λ b. not (is_null key || b) && keeps_key (Some place) (take (i + 1) rows) (drop (i + 1) rows)) (sym (has key))
-    ∙ ap (λ b. b && keeps_key (Some place) (take (i + 1) rows) (drop (i + 1) rows)) (sym added_is)
+pub keeps_key_more : (index : KeyIndex) (before rows : List Row) (i : ℕ) (row : Row) (key : Value) (added : Bool) → i < length rows → row ≡ get_or rows i row → key ≡ value_at row.values index.place → HasKeysOf index (before ++ take i rows) → added ≡ not (is_null key || is_some (place_of_key index key)) → keeps_key (Some index.place) (before ++ take i rows) (drop i rows) ≡ (added && keeps_key (Some index.place) (before ++ take (i + 1) rows) (drop (i + 1) rows))
+keeps_key_more index before rows i row key added h is key_is has added_is =
+    let place = index.place in
+    ap (keeps_key (Some place) (before ++ take i rows)) (drop_more rows i row h ∙ ap (λ z. z ∷ drop (i + 1) rows) (sym is))
+    ∙ ap (λ b. not (is_null (value_at row.values place) || has_key place (before ++ take i rows) (value_at row.values place)) && keeps_key (Some place) b (drop (i + 1) rows)) (sym (row_behind before rows i row h is))
+    ∙ ap (λ v. not (is_null v || has_key place (before ++ take i rows) v) && keeps_key (Some place) (before ++ take (i + 1) rows) (drop (i + 1) rows)) (sym key_is)
+    ∙ ap (λ b. not (is_null key || b) && keeps_key (Some place) (before ++ take (i + 1) rows) (drop (i + 1) rows)) (sym (has key))
+    ∙ ap (λ b. b && keeps_key (Some place) (before ++ take (i + 1) rows) (drop (i + 1) rows)) (sym added_is)
 
 or_false : (a : Bool) → (a || false) ≡ a
 or_false true = refl
 or_false false = refl
 
-pub has_keys_more : (index new : KeyIndex) (place : ℕ) (rows : List Row) (i : ℕ) (row : Row) (key : Value) → i < length rows → row ≡ get_or rows i row → key ≡ value_at row.values place → HasKeysOf index place (take i rows) → ((value : Value) → is_some (place_of_key new value) ≡ (is_some (place_of_key index value) || is_equal key value)) → HasKeysOf new place (take (i + 1) rows)
-has_keys_more index new place rows i row key h is key_is has adds value =
+pub has_keys_more : (index new : KeyIndex) (before rows : List Row) (i : ℕ) (row : Row) (key : Value) → i < length rows → row ≡ get_or rows i row → key ≡ value_at row.values index.place → new.place ≡ index.place → HasKeysOf index (before ++ take i rows) → ((value : Value) → is_some (place_of_key new value) ≡ (is_some (place_of_key index value) || is_equal key value)) → HasKeysOf new (before ++ take (i + 1) rows)
+has_keys_more index new before rows i row key h is key_is same has adds value =
+    let place = index.place in
     adds value
     ∙ ap (λ b. b || is_equal key value) (has value)
-    ∙ ap (λ v. has_key place (take i rows) value || is_equal v value) key_is
-    ∙ ap (λ b. has_key place (take i rows) value || b) (sym (or_false (is_equal (value_at row.values place) value)))
-    ∙ sym (list_any-append (λ (r : Row). is_equal (value_at r.values place) value) (take i rows) (row ∷ []))
-    ∙ ap (λ l. has_key place l value) (sym (row_behind rows i row h is))
+    ∙ ap (λ v. has_key place (before ++ take i rows) value || is_equal v value) key_is
+    ∙ ap (λ b. has_key place (before ++ take i rows) value || b) (sym (or_false (is_equal (value_at row.values place) value)))
+    ∙ sym (list_any-append (λ (r : Row). is_equal (value_at r.values place) value) (before ++ take i rows) (row ∷ []))
+    ∙ ap (λ l. has_key place l value) (sym (row_behind before rows i row h is))
+    ∙ ap (λ p. has_key p (before ++ take (i + 1) rows) value) (sym same)
+
+-- ---- the only row with a key
+
+pub added_new : (null there : Bool) → true ≡ not (null || there) → there ≡ false
+added_new true there p = absurd (true≢false p)
+added_new false true p = absurd (true≢false p)
+added_new false false p = refl
+
+same_key : (a b : Value) → is_equal a b ≡ true → a ≡ b
+same_key (Integer m) (Integer n) p = ap (λ v. Integer v) ((signed_Decides m n).0 p)
+same_key (Text s) (Text t) p = ap (λ v. Text v) ((bytes_decides s t).0 p)
+same_key (Blob s) (Blob t) p = ap (λ v. Blob v) ((bytes_decides s t).0 p)
+same_key Null b p = absurd (true≢false (sym p))
+same_key (Integer m) Null p = absurd (true≢false (sym p))
+same_key (Integer m) (Text t) p = absurd (true≢false (sym p))
+same_key (Integer m) (Blob t) p = absurd (true≢false (sym p))
+same_key (Text s) Null p = absurd (true≢false (sym p))
+same_key (Text s) (Integer n) p = absurd (true≢false (sym p))
+same_key (Text s) (Blob t) p = absurd (true≢false (sym p))
+same_key (Blob s) Null p = absurd (true≢false (sym p))
+same_key (Blob s) (Integer n) p = absurd (true≢false (sym p))
+same_key (Blob s) (Text t) p = absurd (true≢false (sym p))
+
+-- a row behind the only one that passes a test
+only_push : (test : Row → Bool) (rows : List Row) (row : Row) (i : ℕ) → test row ≡ false → IsOnly i test rows → IsOnly i test (rows ++ row ∷ [])
+only_push test rows row i fails only =
+    let within : i + 1 ≤ length rows = let h = only.0 in omega (arith, h) in (
+      let h = only.0 in let l = length-append rows (row ∷ []) in omega (arith, h, l),
+      ap (list_any test) (take-append-le i rows (row ∷ []) (omega (arith, within))) ∙ only.1,
+      ap (list_any test) (drop-append-le (i + 1) rows (row ∷ []) within) ∙ list_any-append test (drop (i + 1) rows) (row ∷ []) ∙ ap (λ b. list_any test (drop (i + 1) rows) || (b || false)) fails ∙ ap (λ b. b || false) only.2,
+    )
+
+-- the last row is the only one that passes a test
+only_last : (test : Row → Bool) (rows : List Row) (row : Row) (i : ℕ) → list_any test rows ≡ false → length rows ≡ i → IsOnly i test (rows ++ row ∷ [])
+only_last test rows row i none is =
+    let l = length-append rows (row ∷ []) in
+    let t : take i (rows ++ row ∷ []) ≡ rows = ap (λ n. take n (rows ++ row ∷ [])) (sym is) ∙ take-append_seam rows (row ∷ []) in
+    let d : drop (i + 1) (rows ++ row ∷ []) ≡ [] = ap (λ n. drop (n + 1) (rows ++ row ∷ [])) (sym is) ∙ drop-append-add rows (row ∷ []) 1 in
+    (omega (arith, l, is), ap (list_any test) t ∙ none, ap (list_any test) d)
+
+Some-inj : (a b : ℕ) → Some a ≡ Some b → a ≡ b
+Some-inj a b p = cc
+
+finds_push : (index new : KeyIndex) (rows : List Row) (row : Row) (key : Value) (n : ℕ) → key ≡ value_at row.values index.place → new.place ≡ index.place → HasKeysOf index rows → FindsOnly index rows → is_some (place_of_key index key) ≡ false → length rows ≡ n → ((value : Value) → place_of_key new value ≡ cond (is_equal key value) (Some n) (place_of_key index value)) → FindsOnly new (rows ++ row ∷ [])
+finds_push index new rows row key n key_is same has finds fresh n_is puts value i found =
+    subst (λ p. IsOnly i (λ (r : Row). is_equal (value_at r.values p) value) (rows ++ row ∷ [])) (sym same)
+    (⊎_elim
+    (λ yes. only_last test rows row i
+    (sym (has value) ∙ ap (λ v. is_some (place_of_key index v)) (sym (same_key key value yes)) ∙ fresh)
+    (n_is ∙ Some-inj n i (sym (cond-true (is_equal key value) (Some n) (place_of_key index value) yes) ∙ sym (puts value) ∙ found)))
+    (λ differs. only_push test rows row i
+    (ap (λ k. is_equal k value) (sym key_is) ∙ differs)
+    (finds value i (sym (cond-false (is_equal key value) (Some n) (place_of_key index value) differs) ∙ sym (puts value) ∙ found)))
+    (cases_Bool (is_equal key value)))
+  where
+    test : Row → Bool
+    test r = is_equal (value_at r.values index.place) value
+
+pub finds_more : (index new : KeyIndex) (before rows : List Row) (i : ℕ) (row : Row) (key : Value) (n : ℕ) → i < length rows → row ≡ get_or rows i row → key ≡ value_at row.values index.place → new.place ≡ index.place → HasKeysOf index (before ++ take i rows) → FindsOnly index (before ++ take i rows) → is_some (place_of_key index key) ≡ false → length (before ++ take i rows) ≡ n → ((value : Value) → place_of_key new value ≡ cond (is_equal key value) (Some n) (place_of_key index value)) → FindsOnly new (before ++ take (i + 1) rows)
+finds_more index new before rows i row key n h is key_is same has finds fresh n_is puts =
+    subst (λ l. FindsOnly new l) (sym (row_behind before rows i row h is)) (finds_push index new (before ++ take i rows) row key n key_is same has finds fresh n_is puts)
+
+pub finds_none : (index : KeyIndex) → HasKeysOf index [] → FindsOnly index []
+finds_none index has key place found = absurd (true≢false (ap is_some (sym found) ∙ has key))
+
+-- the row at a place, from the ones about it
+pub row_between : (rows : List Row) (i : ℕ) → i < length rows → rows ≡ take i rows ++ take 1 (drop i rows) ++ drop (i + 1) rows
+row_between rows i h =
+    sym (take-append-drop i rows)
+    ∙ ap (λ l. take i rows ++ l) (sym (take-append-drop 1 (drop i rows)) ∙ ap (λ l. take 1 (drop i rows) ++ l) (drop-drop 1 i rows))
+    ∙ sym (append_assoc (take i rows) (take 1 (drop i rows)) (drop (i + 1) rows))

@@ -2,6 +2,7 @@ pub mod EachLemmas
 pub mod FormulaLemmas
 pub mod RowLemmas
 pub mod KeyLemmas
+pub mod NarrowLemmas
 pub mod TableLemmas
 pub mod ExecLemmas
 pub mod ClassLemmas

@@ -1,5 +1,6 @@
 -- The places of rows by their keys.
-use Rattle.std.specs.Prelude.{◌≡◌, ℕ, List, Option, None, Vec, is_some}
+use Rattle.std.specs.Prelude.{◌≡◌, ℕ, ◌+◌, ◌<◌, Bool, false, List, ◌++◌, length, take, drop, Option, None, Some, Vec, is_some, IfSome}
+use Rattle.std.specs.List.{list_any}
 use Rattle.std.specs.BTreeMap.{BTreeMap, get, get_by}
 use Rattle.std.specs.Cmp.Lexicographic.{slice_cmp}
 use Rattle.std.specs.Ordering.{int_cmp, nat_cmp}
@@ -7,7 +8,7 @@ use Rattle.hrana_value.specs.declared.value.Value.{Value}
 use Rattle.hrana_value.specs.declared.value.Value.TheVariants.{Null, Integer, Text, Blob}
 use Rattle.memory_keeper.specs.declared.keys.KeyIndex.{KeyIndex}
 use Rattle.memory_keeper.specs.declared.tables.Row.{Row}
-use Rattle.memory_keeper.specs.Tables.{has_key}
+use Rattle.memory_keeper.specs.Values.{value_at, is_equal}
 
 abbrev pub place_of_bytes : {A : Type 0} → BTreeMap (Vec ℕ A) ℕ → List ℕ → Option ℕ
 place_of_bytes places bytes = get_by (λ key. slice_cmp nat_cmp bytes key.items) places
@@ -19,6 +20,22 @@ place_of_key index (Integer number) = get int_cmp index.integers number
 place_of_key index (Text text) = place_of_bytes index.texts text
 place_of_key index (Blob bytes) = place_of_bytes index.blobs bytes
 
+-- there is a row at the place, and no other row passes the test
+abbrev pub IsOnly : ℕ → (Row → Bool) → List Row → Type 0
+IsOnly place test rows = (place < length rows) × (list_any test (take place rows) ≡ false) × (list_any test (drop (place + 1) rows) ≡ false)
+
+-- these are the rows that pass the test, and maybe others
+abbrev pub Narrows : (Row → Bool) → List Row → List Row → Type 0
+Narrows test some rows = (before : List Row) × (after : List Row) × (rows ≡ before ++ some ++ after) × (list_any test before ≡ false) × (list_any test after ≡ false)
+
 -- the index has the keys of the rows, and no others
-abbrev pub HasKeysOf : KeyIndex → ℕ → List Row → Type 0
-HasKeysOf index place rows = (value : Value) → is_some (place_of_key index value) ≡ has_key place rows value
+abbrev pub HasKeysOf : KeyIndex → List Row → Type 0
+HasKeysOf index rows = (key : Value) → is_some (place_of_key index key) ≡ list_any (λ row. is_equal (value_at row.values index.place) key) rows
+
+-- a place that the index has is that of the only row with the key
+abbrev pub FindsOnly : KeyIndex → List Row → Type 0
+FindsOnly index rows = (key : Value) (place : ℕ) → place_of_key index key ≡ Some place → IsOnly place (λ row. is_equal (value_at row.values index.place) key) rows
+
+-- the index, if there is one, has the keys of the rows and finds each row by its key
+abbrev pub Indexes : Option KeyIndex → List Row → Type 0
+Indexes index rows = IfSome index (λ i. HasKeysOf i rows × FindsOnly i rows)

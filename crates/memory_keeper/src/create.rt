@@ -28,11 +28,12 @@ fn key_of(cols: &[ColDef]) -> Option<usize>
 pub fn new_table(alloc: Global, name: &Txt, cols: &[ColDef]) -> Result<Table, NoMemory>
     ensures { IfOk result (λ table. table ≡ new_table name.now cols.now) }
 {
+    let key = key_of(cols);
     Ok(Table {
         name: name.copy(alloc)?,
         columns: names_of(alloc, cols)?,
-        key: key_of(cols),
-        rows: TableRows::new(alloc),
+        key,
+        rows: TableRows::new(alloc, key),
         next_rowid: 1,
     })
 }

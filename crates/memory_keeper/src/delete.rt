@@ -26,5 +26,6 @@ pub fn delete(
     let condition = condition_of(alloc, table.columns.as_slice(), bound, wanted)?;
     let count = chosen_count(&condition, table.rows.as_slice())?;
     table.rows.remove_chosen(&condition);
+    table.rows.index_by(alloc, table.key);
     Ok(done(alloc, count, None))
 }

@@ -11,7 +11,7 @@ use crate::fail::{Fail, Refusal};
 use crate::formulas::{Equation, Equations};
 use crate::resolve::{formula_of, place_of};
 use crate::rows::{assigned, breaks_key, done};
-use crate::tables::{Row, Table};
+use crate::tables::{Row, Table, TableRows};
 use hrana_stmt::StmtResult;
 use hrana_value::{NoMemory, Txt, Value};
 use keeper_dialect::{Expr, Exprs, NameList};
@@ -111,33 +111,34 @@ fn nulls(alloc: Global, count: usize) -> Result<Vec<Value>, NoMemory>
 }
 
 /// The row of a tuple, behind those of the tuples before it.
-fn new_row(alloc: Global, table: &Table, fresh: &[Row], tuple: &[Equation]) -> Result<Row, Fail>
+fn new_row(alloc: Global, table: &Table, fresh: &TableRows, tuple: &[Equation]) -> Result<Row, Fail>
     ensures ok { IfOk result (λ row. tuple_added (with_rows table.now fresh.now) tuple.now ≡ Ok (with_rows table.now (fresh.now ++ row ∷ []))) }
     ensures err { IfErr result (Refuses (tuple_added (with_rows table.now fresh.now) tuple.now)) }
     ensures room { OnOk result (table.now.next_rowid + length fresh.now < 2 ^ 63 - 1) }
 {
     let row = nulls(alloc, table.columns.as_slice().len())?;
     let values = assigned(alloc, &[], row, tuple)?;
-    if breaks_key(table.key, table.rows.as_slice(), fresh, values.as_slice()) {
+    if breaks_key(table.key, &table.rows, fresh, values.as_slice()) {
         return Err(Fail::Refused(Refusal::Constraint));
     }
-    let rowid = table.next_rowid.saturating_add(fresh.len() as u64);
+    let before = fresh.as_slice().len() as u64;
+    let rowid = table.next_rowid.saturating_add(before);
     if rowid > MAX_ROWID {
         return Err(Fail::Refused(Refusal::Overflow));
     }
     Ok(Row { rowid, values })
 }
 
-fn new_rows(alloc: Global, table: &Table, tuples: &[Equations]) -> Result<Vec<Row>, Fail>
-    ensures ok { IfOk result (λ fresh. tuples_added table.now tuples.now ≡ Ok (with_rows table.now fresh.items)) }
+fn new_rows(alloc: Global, table: &Table, tuples: &[Equations]) -> Result<TableRows, Fail>
+    ensures ok { IfOk result (λ fresh. tuples_added table.now tuples.now ≡ Ok (with_rows table.now fresh)) }
     ensures err { IfErr result (Refuses (tuples_added table.now tuples.now)) }
-    ensures room { IfOk result (λ fresh. table.now.next_rowid + length fresh.items < 2 ^ 64) }
-    ensures last { IfOk result (λ fresh. 0 < length tuples.now → table.now.next_rowid + length fresh.items < 2 ^ 63) }
+    ensures room { IfOk result (λ fresh. table.now.next_rowid + length fresh < 2 ^ 64) }
+    ensures last { IfOk result (λ fresh. 0 < length tuples.now → table.now.next_rowid + length fresh < 2 ^ 63) }
 {
-    let mut fresh = Vec::new(alloc);
+    let mut fresh = TableRows::new(alloc, table.key);
     for tuple in tuples {
-        let row = new_row(alloc, table, fresh.as_slice(), tuple.as_slice())?;
-        fresh.push(row)?;
+        let row = new_row(alloc, table, &fresh, tuple.as_slice())?;
+        fresh.push(alloc, row)?;
     }
     Ok(fresh)
 }
@@ -155,13 +156,14 @@ fn last_rowid(count: usize, next: u64) -> Option<i64>
 }
 
 /// Puts rows that were made for the table at its end: all of them, or none.
-fn put_rows(table: &mut Table, fresh: Vec<Row>) -> Result<(), NoMemory>
-    requires room { table.old.next_rowid + length fresh.items < 2 ^ 64 }
-    ensures ok { OnOk result (table.new ≡ with_rows table.old fresh.items) }
+fn put_rows(alloc: Global, table: &mut Table, fresh: TableRows) -> Result<(), NoMemory>
+    requires room { table.old.next_rowid + length fresh < 2 ^ 64 }
+    ensures ok { OnOk result (table.new ≡ with_rows table.old fresh) }
     ensures err { OnErr result (table.new ≡ table.old) }
 {
-    let count = fresh.len();
-    table.rows.append(fresh)?;
+    let rows = fresh.into_vec();
+    let count = rows.len();
+    table.rows.append(alloc, rows)?;
     table.next_rowid += count as u64;
     Ok(())
 }
@@ -177,10 +179,11 @@ pub fn insert(
     ensures changes { Changes (insert table.old names.now tuples.now bound.now) table.old result table.new }
     ensures small { IfOk result IsSmall }
 {
+    table.rows.index_by(alloc, table.key);
     let places = places_of(alloc, table.columns.as_slice(), names)?;
     let resolved = tuples_of(alloc, bound, places.as_slice(), tuples)?;
     let fresh = new_rows(alloc, table, resolved.as_slice())?;
-    put_rows(table, fresh)?;
+    put_rows(alloc, table, fresh)?;
     Ok(done(
         alloc,
         tuples.len(),

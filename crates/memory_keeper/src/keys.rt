@@ -1,13 +1,14 @@
 // The places of rows by their keys, so that a key is found in a time that is logarithmic in the rows.
-ghost use Rattle.std.specs.Prelude.{◌≡◌, ℕ, ℤ, List, [], None, Some, ◌||◌, not, cond, is_some, IsTrue, IfOk, IfSome, OnOk};
+ghost use Rattle.std.specs.Prelude.{◌≡◌, ◌+◌, ◌<◌, ◌^◌, length, take, drop, ℕ, ℤ, List, [], None, Some, ◌++◌, ◌||◌, not, cond, is_some, IsTrue, IfOk, IfSome, OnOk};
 ghost use Rattle.std.specs.Option.{option_copied};
 ghost use Rattle.std.specs.BTreeMap.{get};
 ghost use Rattle.std.specs.Ordering.{int_cmp, int_eq};
 ghost use Rattle.std.specs.Str.{bytes_eq};
 ghost use Rattle.hrana_value.specs.declared.value.Value.{Value as SqlValue};
-ghost use Rattle.memory_keeper.specs.Keys.{place_of_bytes, place_of_key, HasKeysOf};
+ghost use Rattle.memory_keeper.specs.Keys.{place_of_bytes, place_of_key, HasKeysOf, FindsOnly, Narrows};
+ghost use Rattle.memory_keeper.specs.declared.tables.Row.{Row};
 ghost use Rattle.memory_keeper.specs.Tables.{keeps_key};
-ghost use Rattle.memory_keeper.specs.Values.{value_or_null, is_null, is_equal};
+ghost use Rattle.memory_keeper.specs.Values.{value_at, value_or_null, is_null, is_equal};
 
 use crate::formulas::value_at;
 use crate::tables::Row;
@@ -17,8 +18,10 @@ use std::alloc::Global;
 use std::collections::BTreeMap;
 
 /// The places of rows by their keys. A key that is null has no place.
-#[derive(Drop)]
+#[derive(Debug, Drop)]
 pub struct KeyIndex {
+    /// The place of the key among the columns.
+    pub place: usize,
     integers: BTreeMap<i64, usize>,
     texts: BTreeMap<Vec<u8>, usize>,
     blobs: BTreeMap<Vec<u8>, usize>,
@@ -67,13 +70,28 @@ fn put_integer(
 }
 
 impl KeyIndex {
-    fn new(alloc: Global) -> KeyIndex
-        ensures { (value : SqlValue) → place_of_key result value ≡ None }
+    /// The index of no rows, by the column at a place.
+    pub fn new(alloc: Global, place: usize) -> KeyIndex
+        ensures keys { HasKeysOf result [] }
+        ensures place { result.place ≡ place }
     {
         KeyIndex {
+            place,
             integers: BTreeMap::new(alloc),
             texts: BTreeMap::new(alloc),
             blobs: BTreeMap::new(alloc),
+        }
+    }
+
+    /// The place of the row with a key.
+    pub fn get(&self, key: &Value) -> Option<usize>
+        ensures { result ≡ place_of_key self.now key.now }
+    {
+        match key {
+            Value::Null => None,
+            Value::Integer(number) => self.integers.get(number).copied(),
+            Value::Text(text) => self.texts.get(text.as_str().as_bytes()).copied(),
+            Value::Blob(bytes) => self.blobs.get(bytes.as_slice()).copied(),
         }
     }
 
@@ -81,6 +99,7 @@ impl KeyIndex {
     fn put(&mut self, alloc: Global, key: &Value, place: usize) -> Result<Option<usize>, NoMemory>
         ensures old { IfOk result (λ old. old ≡ place_of_key self.old key.now) }
         ensures puts { OnOk result ((value : SqlValue) → place_of_key self.new value ≡ cond (is_equal key.now value) (Some place) (place_of_key self.old value)) }
+        ensures column { self.new.place ≡ self.old.place }
     {
         match key {
             Value::Null => Ok(None),
@@ -96,6 +115,8 @@ impl KeyIndex {
     fn add(&mut self, alloc: Global, key: Option<&Value>, place: usize) -> Result<bool, NoMemory>
         ensures added { IfOk result (λ added. added ≡ not (is_null (value_or_null (option_copied key.entry)) || is_some (place_of_key self.old (value_or_null (option_copied key.entry))))) }
         ensures adds { IfOk result (λ added. IsTrue added → (value : SqlValue) → is_some (place_of_key self.new value) ≡ (is_some (place_of_key self.old value) || is_equal (value_or_null (option_copied key.entry)) value)) }
+        ensures puts { IfOk result (λ added. IsTrue added → (value : SqlValue) → place_of_key self.new value ≡ cond (is_equal (value_or_null (option_copied key.entry)) value) (Some place) (place_of_key self.old value)) }
+        ensures column { self.new.place ≡ self.old.place }
     {
         let Some(key) = key else {
             return Ok(false);
@@ -106,27 +127,55 @@ impl KeyIndex {
         Ok(self.put(alloc, key, place)?.is_none())
     }
 
+    /// Adds the rows from a place on, and says whether none breaks the key of those before it. It stops at one that does.
+    pub fn add_rows(&mut self, alloc: Global, start: usize, rows: &[Row]) -> Result<bool, NoMemory>
+        requires { start + length rows.now < 2 ^ 64 }
+        ensures kept { IfOk result (λ kept. (before : List Row) → HasKeysOf self.old before → kept ≡ keeps_key (Some self.old.place) before rows.now) }
+        ensures keys { IfOk result (λ kept. IsTrue kept → (before : List Row) → HasKeysOf self.old before → HasKeysOf self.new (before ++ rows.now)) }
+        ensures finds { IfOk result (λ kept. IsTrue kept → (before : List Row) → HasKeysOf self.old before → FindsOnly self.old before → start ≡ length before → FindsOnly self.new (before ++ rows.now)) }
+        ensures column { self.new.place ≡ self.old.place }
+    {
+        for (number, row) in rows.iter().enumerate() {
+            let key = value_at(row.values.as_slice(), self.place);
+            if !self.add(alloc, key, start + number)? {
+                return Ok(false);
+            }
+        }
+        Ok(true)
+    }
+
     /// The index of rows by the key at a place, if no row breaks the key of those before it.
     pub fn of_rows(alloc: Global, place: usize, rows: &[Row]) -> Result<Option<KeyIndex>, NoMemory>
         ensures kept { IfOk result (λ found. is_some found ≡ keeps_key (Some place) [] rows.now) }
-        ensures keys { IfOk result (λ found. IfSome found (λ index. HasKeysOf index place rows.now)) }
+        ensures keys { IfOk result (λ found. IfSome found (λ index. HasKeysOf index rows.now)) }
+        ensures finds { IfOk result (λ found. IfSome found (λ index. FindsOnly index rows.now)) }
+        ensures place { IfOk result (λ found. IfSome found (λ index. index.place ≡ place)) }
     {
-        let mut index = KeyIndex::new(alloc);
-        for (number, row) in rows.iter().enumerate() {
-            if !index.add(alloc, value_at(row.values.as_slice(), place), number)? {
-                return Ok(None);
-            }
+        let mut index = KeyIndex::new(alloc, place);
+        if index.add_rows(alloc, 0, rows)? {
+            Ok(Some(index))
+        } else {
+            Ok(None)
         }
-        Ok(Some(index))
     }
 }
 
-/// Whether no row breaks the key of those before it.
-pub fn keeps_key(alloc: Global, key: Option<usize>, rows: &[Row]) -> Result<bool, NoMemory>
-    ensures { IfOk result (λ kept. kept ≡ keeps_key key [] rows.now) }
+/// The row at a place alone.
+fn row_at(rows: &[Row], place: usize) -> &[Row]
+    requires { place < length rows.now }
+    ensures { rows.now ≡ take place rows.now ++ result.now ++ drop (place + 1) rows.now }
 {
-    match key {
-        None => Ok(true),
-        Some(place) => Ok(KeyIndex::of_rows(alloc, place, rows)?.is_some()),
+    &rows[place..place + 1]
+}
+
+/// The row with a key, or none.
+pub fn rows_with_key<'a>(rows: &'a [Row], index: &KeyIndex, key: &Value) -> &'a [Row]
+    requires keys { HasKeysOf index.now rows.now }
+    requires finds { FindsOnly index.now rows.now }
+    ensures { Narrows (λ row. is_equal (value_at row.values index.now.place) key.now) result.now rows.now }
+{
+    match index.get(key) {
+        Some(place) => row_at(rows, place),
+        None => &rows[..0],
     }
 }

@@ -12,7 +12,7 @@ use crate::insert::insert;
 use crate::resolve::is_same_name;
 use crate::rows::done;
 use crate::select::select;
-use crate::tables::{Row, Table};
+use crate::tables::{Row, Table, TableRows};
 use crate::update::update;
 use hrana_stmt::StmtResult;
 use hrana_value::{Txt, Value, Values};
@@ -79,8 +79,9 @@ fn selected_from(
 {
     match name {
         None => {
-            let row = [no_columns(alloc)];
-            select(alloc, &[], &row, shown, wanted, bound)
+            let mut rows = TableRows::new(alloc, None);
+            rows.push(alloc, no_columns(alloc))?;
+            select(alloc, &[], &rows, shown, wanted, bound)
         }
         Some(name) => {
             let place = table_of(tables, name.as_str())?;
@@ -88,7 +89,7 @@ fn selected_from(
             select(
                 alloc,
                 table.columns.as_slice(),
-                table.rows.as_slice(),
+                &table.rows,
                 shown,
                 wanted,
                 bound,

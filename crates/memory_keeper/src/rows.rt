@@ -1,15 +1,16 @@
 // Which rows a condition chooses, and what is made of them.
-ghost use Rattle.std.specs.Prelude.{◌≡◌, ◌≤◌, [], ◌++◌, length, IfOk};
+ghost use Rattle.std.specs.Prelude.{◌≡◌, ◌≤◌, [], ◌++◌, length, Ok, IfOk, IfSome};
 ghost use Rattle.std.specs.Option.{option_copied};
 ghost use Rattle.engine_core.specs.Results.{IsSmall};
+ghost use Rattle.memory_keeper.specs.declared.tables.Row.{Row};
 ghost use Rattle.memory_keeper.specs.Each.{Gives};
 ghost use Rattle.memory_keeper.specs.Formulas.{assigned};
 ghost use Rattle.memory_keeper.specs.Values.{value_at, value_or_null, is_equal};
 ghost use Rattle.memory_keeper.specs.Tables.{is_chosen, stays, chosen_count, has_key, is_taken, breaks_key, done};
 
 use crate::fail::{Fail, Refusal};
-use crate::formulas::{Equation, formula_value, is_met};
-use crate::tables::Row;
+use crate::formulas::{Equation, Operand, formula_value, is_met};
+use crate::tables::{Row, TableRows};
 use crate::values::{is_equal, is_null};
 use hrana_stmt::{Cols, Rows, StmtResult};
 use hrana_value::{Value, Values};
@@ -32,6 +33,22 @@ pub fn stays(condition: &Option<Equation>, row: &Row) -> bool
     match is_chosen(condition, row) {
         Ok(chosen) => !chosen,
         Err(_) => true,
+    }
+}
+
+/// The constant that the column at a place has to be equal to where a condition chooses a row, if the condition is of that form.
+pub fn constant_of(place: usize, condition: &Option<Equation>) -> Option<&Value>
+    ensures { IfSome result (λ value. (row : Row) → is_chosen condition.now row ≡ Ok (is_equal (value_at row.values place) value.now)) }
+{
+    let Some(equation) = condition else {
+        return None;
+    };
+    if equation.place != place {
+        return None;
+    }
+    match (equation.formula.rest.as_slice(), &equation.formula.first) {
+        ([], Operand::Constant(value)) => Some(value),
+        _ => None,
     }
 }
 
@@ -84,7 +101,7 @@ pub fn has_key(place: usize, rows: &[Row], value: &Value) -> bool
 }
 
 /// Whether a key is null or missing, or that of a row before these or among them.
-fn is_taken(place: usize, before: &[Row], rows: &[Row], key: Option<&Value>) -> bool
+fn is_taken(place: usize, before: &TableRows, rows: &TableRows, key: Option<&Value>) -> bool
     ensures { result ≡ is_taken place (before.now ++ rows.now) (value_or_null (option_copied key.entry)) }
 {
     let Some(key) = key else {
@@ -93,14 +110,19 @@ fn is_taken(place: usize, before: &[Row], rows: &[Row], key: Option<&Value>) -> 
     if is_null(key) {
         return true;
     }
-    if has_key(place, before, key) {
+    if before.has_key(place, key) {
         return true;
     }
-    has_key(place, rows, key)
+    rows.has_key(place, key)
 }
 
 /// Whether the key of a new row is null, or that of a row before these or among them.
-pub fn breaks_key(key: Option<usize>, before: &[Row], rows: &[Row], values: &[Value]) -> bool
+pub fn breaks_key(
+    key: Option<usize>,
+    before: &TableRows,
+    rows: &TableRows,
+    values: &[Value],
+) -> bool
     ensures { result ≡ breaks_key key (before.now ++ rows.now) values.now }
 {
     match key {

@@ -11,7 +11,7 @@ use crate::fail::{Fail, Refusal};
 use crate::formulas::{Equation, Formula, Formulas, Picture, formula_value};
 use crate::resolve::{condition_of, formula_of};
 use crate::rows::{chosen_count, is_chosen};
-use crate::tables::Row;
+use crate::tables::{Row, TableRows};
 use hrana_stmt::{Col, Cols, Rows, StmtResult};
 use hrana_value::{NoMemory, Txt, Value, Values};
 use keeper_dialect::{ColExpr, Item, Shown};
@@ -224,7 +224,7 @@ fn cols_of(alloc: Global, columns: &[Txt], shown: &Shown) -> Result<Cols, NoMemo
 pub fn select(
     alloc: Global,
     columns: &[Txt],
-    rows: &[Row],
+    rows: &TableRows,
     shown: &Shown,
     wanted: &Option<ColExpr>,
     bound: &[Value],
@@ -234,7 +234,7 @@ pub fn select(
 {
     let picture = picture_of(alloc, columns, bound, shown)?;
     let condition = condition_of(alloc, columns, bound, wanted)?;
-    let given = shown_rows(alloc, &picture, &condition, rows)?;
+    let given = shown_rows(alloc, &picture, &condition, rows.candidates(&condition))?;
     if !fits(given.as_slice()) {
         return Err(Fail::Refused(Refusal::ResultTooLarge));
     }

@@ -1,15 +1,19 @@
 // Tables and their rows.
-ghost use Rattle.std.specs.Prelude.{◌≡◌, [], ◌++◌, OnOk, OnErr, IfOk, filter};
+ghost use Rattle.std.specs.Prelude.{◌≡◌, ◌+◌, ◌<◌, ◌^◌, length, List, [], ◌∷◌, ◌++◌, OnOk, OnErr, IfOk, IfSome, is_some, filter};
 ghost use Rattle.engine_core.specs.Results.{IsSmall};
-ghost use Rattle.memory_keeper.specs.Tables.{stays};
+ghost use Rattle.memory_keeper.specs.declared.formulas.Picture.{Picture};
+ghost use Rattle.memory_keeper.specs.declared.tables.Row.{Row};
+ghost use Rattle.memory_keeper.specs.Keys.{Indexes, HasKeysOf, FindsOnly};
+ghost use Rattle.memory_keeper.specs.Tables.{stays, has_key, keeps_key, shown_rows};
 ghost use Rattle.memory_keeper.specs.Exec.{exec, RunsAs};
 
 use crate::execute::execute;
 use crate::formulas::Equation;
-use crate::rows::stays;
+use crate::keys::{KeyIndex, rows_with_key};
+use crate::rows::{constant_of, has_key, stays};
 use engine_core::{BoundStmt, EngineFail};
 use hrana_stmt::StmtResult;
-use hrana_value::{NoMemory, Txt, Values};
+use hrana_value::{NoMemory, Txt, Value, Values};
 use keeper_dialect::NameList;
 use std::alloc::Global;
 use std::marker::Model;
@@ -32,19 +36,24 @@ impl Row {
     }
 }
 
-/// The rows of a table, in the order of their rowids.
+/// The rows of a table, in the order of their rowids, with an index of their keys where there is a key. Where memory was
+/// wanting the index is left out, and a key is searched for row by row.
 #[derive(Debug, Drop)]
 pub struct TableRows {
     items: Vec<Row>,
+    index: Option<KeyIndex>,
 }
 
 impl Model for TableRows {
     ghost use Rattle.std.specs.Prelude.{List};
     ghost use Rattle.memory_keeper.specs.declared.tables.Row.{Row};
+    ghost use Rattle.memory_keeper.specs.Keys.{Indexes};
 
     ghost Value = { List Row };
 
     ghost view = { λ rows. rows.items.items };
+
+    ghost invariant = { λ rows. Indexes rows.index rows.items.items };
 }
 
 fn retain_rows(rows: &mut Vec<Row>, condition: &Option<Equation>)
@@ -53,20 +62,81 @@ fn retain_rows(rows: &mut Vec<Row>, condition: &Option<Equation>)
     rows.retain(|row| stays(condition, row));
 }
 
+/// An index of rows; none where one of them breaks the key of those before it, or memory is wanting.
+fn index_of(alloc: Global, place: usize, rows: &[Row]) -> Option<KeyIndex>
+    ensures { Indexes result rows.now }
+{
+    match KeyIndex::of_rows(alloc, place, rows) {
+        Ok(found) => found,
+        Err(_) => None,
+    }
+}
+
+/// An index with more rows, from a place on; none where one of them breaks the key, or memory is wanting.
+fn grown_index(
+    alloc: Global,
+    index: Option<KeyIndex>,
+    start: usize,
+    rows: &[Row],
+) -> Option<KeyIndex>
+    requires { start + length rows.now < 2 ^ 64 }
+    ensures { (before : List Row) → Indexes index before → start ≡ length before → Indexes result (before ++ rows.now) }
+{
+    let Some(mut index) = index else {
+        return None;
+    };
+    match index.add_rows(alloc, start, rows) {
+        Ok(true) => Some(index),
+        _ => None,
+    }
+}
+
+/// The row that a condition may choose, where it says that the key is a constant, else all rows.
+fn narrowed<'a>(rows: &'a [Row], index: &KeyIndex, condition: &Option<Equation>) -> &'a [Row]
+    requires keys { HasKeysOf index.now rows.now }
+    requires finds { FindsOnly index.now rows.now }
+    ensures { (picture : Picture) → shown_rows picture condition.now result.now ≡ shown_rows picture condition.now rows.now }
+{
+    match constant_of(index.place, condition) {
+        Some(key) => rows_with_key(rows, index, key),
+        None => rows,
+    }
+}
+
 impl TableRows {
-    pub fn new(alloc: Global) -> TableRows
+    /// No rows, with an index if there is a key.
+    pub fn new(alloc: Global, key: Option<usize>) -> TableRows
         ensures { result ≡ [] }
     {
+        let index = match key {
+            Some(place) => Some(KeyIndex::new(alloc, place)),
+            None => None,
+        };
         TableRows {
             items: Vec::new(alloc),
+            index,
         }
     }
 
-    /// The rows themselves, with no copy.
-    pub fn from_vec(items: Vec<Row>) -> TableRows
-        ensures { result ≡ items.items }
+    /// The rows themselves, with no copy, if none breaks the key of those before it.
+    pub fn with_key(
+        alloc: Global,
+        key: Option<usize>,
+        items: Vec<Row>,
+    ) -> Result<Option<TableRows>, NoMemory>
+        ensures kept { IfOk result (λ found. is_some found ≡ keeps_key key [] items.items) }
+        ensures rows { IfOk result (λ found. IfSome found (λ rows. rows ≡ items.items)) }
     {
-        TableRows { items }
+        let Some(place) = key else {
+            return Ok(Some(TableRows { items, index: None }));
+        };
+        match KeyIndex::of_rows(alloc, place, items.as_slice())? {
+            Some(index) => Ok(Some(TableRows {
+                items,
+                index: Some(index),
+            })),
+            None => Ok(None),
+        }
     }
 
     pub fn as_slice(&self) -> &[Row]
@@ -75,24 +145,86 @@ impl TableRows {
         self.items.as_slice()
     }
 
+    pub fn into_vec(self) -> Vec<Row>
+        ensures { result.items ≡ self }
+    {
+        self.items
+    }
+
+    /// Makes an index for the key, if there is none. Where memory is wanting there is none afterwards either.
+    pub fn index_by(&mut self, alloc: Global, key: Option<usize>)
+        ensures { self.new ≡ self.old }
+    {
+        let Some(place) = key else {
+            return;
+        };
+        if self.index.is_some() {
+            return;
+        }
+        self.index = index_of(alloc, place, self.items.as_slice());
+    }
+
+    /// Whether a row has this key.
+    pub fn has_key(&self, place: usize, key: &Value) -> bool
+        ensures { result ≡ has_key place self.now key.now }
+    {
+        match &self.index {
+            Some(index) => {
+                if index.place == place {
+                    index.get(key).is_some()
+                } else {
+                    has_key(place, self.items.as_slice(), key)
+                }
+            }
+            None => has_key(place, self.items.as_slice(), key),
+        }
+    }
+
+    /// Rows of which a condition chooses what it chooses of all: the row with the key, where the condition says that the key
+    /// is a constant, else all rows.
+    pub fn candidates(&self, condition: &Option<Equation>) -> &[Row]
+        ensures { (picture : Picture) → shown_rows picture condition.now result.now ≡ shown_rows picture condition.now self.now }
+    {
+        match &self.index {
+            Some(index) => narrowed(self.items.as_slice(), index, condition),
+            None => self.items.as_slice(),
+        }
+    }
+
+    /// Puts a row at the end. What is refused is dropped.
+    pub fn push(&mut self, alloc: Global, row: Row) -> Result<(), NoMemory>
+        ensures ok { OnOk result (self.new ≡ self.old ++ row ∷ []) }
+        ensures err { OnErr result (self.new ≡ self.old) }
+    {
+        let mut rows = Vec::new(alloc);
+        rows.push(row)?;
+        self.append(alloc, rows)
+    }
+
     /// Puts rows at the end: all of them, or none.
-    pub fn append(&mut self, mut rows: Vec<Row>) -> Result<(), NoMemory>
+    pub fn append(&mut self, alloc: Global, mut rows: Vec<Row>) -> Result<(), NoMemory>
         ensures ok { OnOk result (self.new ≡ self.old ++ rows.items) }
         ensures err { OnErr result (self.new ≡ self.old) }
     {
+        let index = grown_index(alloc, self.index.take(), self.items.len(), rows.as_slice());
         match self.items.append(&mut rows) {
-            Ok(()) => Ok(()),
+            Ok(()) => {
+                self.index = index;
+                Ok(())
+            }
             Err(_) => Err(NoMemory),
         }
     }
 
-    /// Removes the rows that the condition chooses.
+    /// Removes the rows that the condition chooses, and the index.
     pub fn remove_chosen(&mut self, condition: &Option<Equation>)
         ensures { self.new ≡ filter (stays condition.now) self.old }
     {
+        self.index = None;
         retain_rows(&mut self.items, condition);
     }
 
+    /// A copy, with an index of its own if there is one.
     pub fn copy(&self, alloc: Global) -> Result<TableRows, NoMemory>
         ensures { IfOk result (λ copy. copy ≡ self.now) }
     {
@@ -100,7 +232,14 @@ impl TableRows {
         for row in self.as_slice() {
             copies.push(row.copy(alloc)?)?;
         }
-        Ok(TableRows { items: copies })
+        let index = match &self.index {
+            Some(index) => index_of(alloc, index.place, copies.as_slice()),
+            None => None,
+        };
+        Ok(TableRows {
+            items: copies,
+            index,
+        })
     }
 }
 

@@ -6,7 +6,6 @@ ghost use Rattle.memory_keeper.specs.Tables.{renewal, renewed_row, all_renewed, 
 
 use crate::fail::{Fail, Refusal};
 use crate::formulas::Equation;
-use crate::keys::keeps_key;
 use crate::resolve::{condition_of, equations_of};
 use crate::rows::{assigned, done, is_chosen};
 use crate::tables::{Row, Table, TableRows};
@@ -112,9 +111,9 @@ pub fn update(
         equations.as_slice(),
         table.rows.as_slice(),
     )?;
-    if !keeps_key(alloc, table.key, rows.as_slice())? {
+    let Some(rows) = TableRows::with_key(alloc, table.key, rows)? else {
         return Err(Fail::Refused(Refusal::Constraint));
-    }
-    table.rows = TableRows::from_vec(rows);
+    };
+    table.rows = rows;
     Ok(done(alloc, count, None))
 }

@@ -3,8 +3,9 @@ use Rattle.memory_keeper.specs.Tables.{select}
 use Rattle.memory_keeper.proofs.ExecLemmas.{gives_on_table}
 use Rattle.memory_keeper.proofs.queries.selected_from.Goals as goal
 
-pub returns-in-None-clause-gives : goal.returns-in-None-clause-gives
-returns-in-None-clause-gives c = rw (c.in-None.is, ← c.no_columns.ensures) c.select.ensures.gives
+pub returns-in_ok-push-in-None-clause-gives : goal.returns-in_ok-push-in-None-clause-gives
+returns-in_ok-push-in-None-clause-gives c =
+    rw c.in-None.is (rw (c.in_ok-push-in-None.ensures.ok, c.new-rows.ensures, c.no_columns.ensures) at c.select.ensures.gives)
 
 pub returns-in_ok-place-in-Some-clause-gives : goal.returns-in_ok-place-in-Some-clause-gives
 returns-in_ok-place-in-Some-clause-gives c =
@@ -13,4 +14,4 @@ returns-in_ok-place-in-Some-clause-gives c =
     (λ (t : Table). select t.columns t.rows c.args.shown.now c.args.wanted.now c.args.bound.now) _
     (rw c.as_str.ensures at c.in_ok-place-in-Some.ensures.ok)
     c.in_ok-place-in-Some.ensures.within c.index-tables-place.is
-    (rw (c.as_slice.ensures, c.as_slice-in-Some.ensures) at c.select-in-Some.ensures.gives))
+    (rw c.as_slice.ensures at c.select-in-Some.ensures.gives))
