@@ -5,7 +5,7 @@ ghost use Rattle.engine_core.specs.Transactions.{NoneLive};
 
 use crate::*;
 use hrana_stmt::{Code, StmtResult};
-use hrana_value::{Bytes, StreamNo, Txt, Value, Values};
+use hrana_value::{StreamNo, Txt, Value, Values};
 use sql_text::class_of;
 use std::alloc::Global;
 use std::test::Fail;
@@ -90,25 +90,6 @@ fn plain_keeper_runs_two_statements(rt: HostRuntime) -> Result<(), Fail> {
     for row in given.rows.as_slice() {
         assert!(rt; matches!(row.as_slice(), [Value::Integer(5)]));
     }
-    Ok(())
-}
-
-#[test]
-fn plain_keeper_limits_bytes(rt: HostRuntime) -> Result<(), Fail> {
-    let alloc = rt.alloc();
-    let mut keeper = PlainKeeper::new(alloc)?;
-    let select = statement(alloc, SELECT, Value::Null)?;
-    // A blob counts 8 and its length, so that one is 1,048,576 bytes.
-    let blob = Value::Blob(Bytes::from_vec(vec![in alloc; 0u8; 1048568]?));
-    let insert = statement(alloc, INSERT, blob)?;
-    run_alone(&mut keeper, &insert)?;
-    assert_eq!(rt; run_alone(&mut keeper, &select)?.rows.as_slice().len(), 1);
-    let insert = statement(alloc, INSERT, Value::Null)?;
-    run_alone(&mut keeper, &insert)?;
-    assert_eq!(rt;
-        run_alone(&mut keeper, &select).err(),
-        Some(EngineFail::Refused(Code::ResultTooLarge))
-    );
     Ok(())
 }
 
