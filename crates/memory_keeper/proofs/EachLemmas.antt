@@ -6,7 +6,7 @@ use Rattle.std.proofs.lemmas.Result.{err_from_is_err_and}
 use Rattle.std.specs.Result.{IsErrAnd, IfErr}
 use Rattle.memory_keeper.specs.declared.fail.Fail.{Fail}
 use Rattle.memory_keeper.specs.declared.fail.Fail.TheVariants.{Refused, NoMemory}
-use Rattle.memory_keeper.specs.Each.{and_then, map_ok, each, Refuses, Gives}
+use Rattle.memory_keeper.specs.Each.{and_then, map_ok, each, Refuses, Gives, Changes}
 
 -- the results of two lists, one after the other
 abbrev pub joined : {B : Type 0} → Result (List B) Refusal → Result (List B) Refusal → Result (List B) Refusal
@@ -88,6 +88,14 @@ err_refused meant r fail p h = let q = err_from_is_err_and r p in subst (λ t. I
 
 pub err_refusal : {T A : Type 0} (meant : Result A Refusal) (r : Result T Fail) (refusal : Refusal) → IsErrAnd r (λ e. e ≡ Refused refusal) → meant ≡ Err refusal → IfErr r (Refuses meant)
 err_refusal meant r refusal p h = err_refused meant r (Refused refusal) p h
+
+-- a call that leaves what it stands on
+pub changes_refused : {D A : Type 0} (meant : Result (D × A) Refusal) (old : D) (r : Result A Fail) (fail : Fail) → IsErrAnd r (λ e. e ≡ fail) → Refuses meant fail → Changes meant old r old
+changes_refused meant old r fail p h = let q = err_from_is_err_and r p in subst (λ t. Changes meant old t old) (sym q.1) (subst (Refuses meant) (sym q.2) h, refl)
+
+pub refuses_then : {A B : Type 0} (r : Result A Refusal) (f : A → Result B Refusal) (fail : Fail) → Refuses r fail → Refuses (and_then r f) fail
+refuses_then r f (Refused refusal) p = and_then-Err r f refusal p
+refuses_then r f NoMemory p = tt
 
 pub refuses_map_ok : {A B : Type 0} (f : A → B) (r : Result A Refusal) (fail : Fail) → Refuses r fail → Refuses (map_ok f r) fail
 refuses_map_ok f r (Refused refusal) p = ap (map_ok f) p

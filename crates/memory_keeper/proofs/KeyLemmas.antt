@@ -1,5 +1,5 @@
 -- Lemmas on the places of rows by their keys.
-use Rattle.std.proofs.Common.{◌≡◌, ℕ, ◌+◌, ◌<◌, ◌≤◌, true≢false, length-append, arith, Bool, true, false, cond, not, ◌&&◌, ◌||◌, is_some, length, get_or, take, drop, List, [], ◌∷◌, ◌++◌, Option, Some, None, refl, sym, ap, subst, ◌∙◌, ⊎_elim}
+use Rattle.std.proofs.Common.{◌≡◌, ℕ, ◌+◌, ◌-◌, ◌<◌, ◌≤◌, true≢false, length-append, arith, Bool, true, false, cond, not, ◌&&◌, ◌||◌, is_some, length, get_or, take, drop, List, [], ◌∷◌, ◌++◌, Option, Some, None, refl, sym, ap, subst, ◌∙◌, ⊎_elim}
 use Rattle.std.specs.BTreeMap.{BTreeMap, get_by, UpdatesBy}
 use Rattle.std.specs.Cmp.Lexicographic.{slice_cmp, bytes_decides, nat_list_cmp_total, nat_list_eq_equiv}
 use Rattle.std.specs.Cmp.{eq_by_cmp_equiv, signed_Decides}
@@ -9,16 +9,20 @@ use Rattle.std.specs.Ordering.{is_eq, nat_cmp}
 use Rattle.std.specs.Str.{bytes_eq}
 use Rattle.std.proofs.lemmas.Bool.{cases_Bool, cond-true, cond-false}
 use Rattle.std.proofs.lemmas.Map.Text.{is_eq-slice_cmp}
-use Rattle.std.proofs.lemmas.List.{take_more, drop_more, append_assoc, take-append-le, drop-append-le, take-append-drop, drop-drop}
-use Rattle.std.proofs.Math.Seq.{take-append_seam, drop-append-add}
+use Rattle.std.proofs.lemmas.List.{take_more, drop_more, append_assoc, take-append-le, drop-append-le, take-append-drop, append-nil, length-map, take-map, drop-map, drop-drop, take_more_set, drop-set-lt}
+use Rattle.std.proofs.Math.Seq.{take-append_seam, drop-append-add, map-set_same}
+use Rattle.std.proofs.Math.ListN.{set}
+use Rattle.std.specs.Prelude.{slice_range}
 use Rattle.hrana_value.specs.declared.value.Value.TheVariants.{Null, Integer, Text, Blob}
 use Rattle.std.proofs.lemmas.List.Folds.{list_any-append}
 use Rattle.hrana_value.specs.declared.value.Value.{Value}
 use Rattle.memory_keeper.specs.declared.keys.KeyIndex.{KeyIndex}
-use Rattle.memory_keeper.specs.Keys.{place_of_key, HasKeysOf, FindsOnly, IsOnly}
+use Rattle.memory_keeper.specs.declared.spans.Span.{Span}
+use Rattle.memory_keeper.specs.Spans.{replaced}
+use Rattle.memory_keeper.specs.Keys.{place_of_key, HasKeysOf, FindsOnly, IsOnly, Indexes, keys_of}
 use Rattle.memory_keeper.specs.Values.{value_at, is_null, is_equal}
 use Rattle.memory_keeper.specs.declared.tables.Row.{Row}
-use Rattle.memory_keeper.specs.Tables.{has_key, keeps_key}
+use Rattle.memory_keeper.specs.Constraint.{has_key, breaks_key, keeps_key}
 
 apart : (bs cs ks : List ℕ) → bytes_eq bs cs ≡ false → is_eq (slice_cmp nat_cmp bs ks) ≡ true → is_eq (slice_cmp nat_cmp cs ks) ≡ false
 apart bs cs ks n y = is_eq-slice_cmp cs ks ∙ nat_list_eq_equiv.symm cs ks ∙ sym (nat_list_eq_equiv.congr bs ks cs (sym (is_eq-slice_cmp bs ks) ∙ y)) ∙ n
@@ -133,9 +137,106 @@ finds_more index new before rows i row key n h is key_is same has finds fresh n_
 pub finds_none : (index : KeyIndex) → HasKeysOf index [] → FindsOnly index []
 finds_none index has key place found = absurd (true≢false (ap is_some (sym found) ∙ has key))
 
--- the row at a place, from the ones about it
-pub row_between : (rows : List Row) (i : ℕ) → i < length rows → rows ≡ take i rows ++ take 1 (drop i rows) ++ drop (i + 1) rows
-row_between rows i h =
-    sym (take-append-drop i rows)
-    ∙ ap (λ l. take i rows ++ l) (sym (take-append-drop 1 (drop i rows)) ∙ ap (λ l. take 1 (drop i rows) ++ l) (drop-drop 1 i rows))
-    ∙ sym (append_assoc (take i rows) (take 1 (drop i rows)) (drop (i + 1) rows))
+-- ---- rows with the same keys
+
+-- rows with these keys keep the constraint, behind rows with those
+keys_kept : List Value → List Value → Bool
+keys_kept before [] = true
+keys_kept before (key ∷ keys) = not (is_null key || list_any (λ k. is_equal k key) before) && keys_kept (before ++ key ∷ []) keys
+
+any_key : (place : ℕ) (rows : List Row) (key : Value) → has_key place rows key ≡ list_any (λ k. is_equal k key) (keys_of place rows)
+any_key place [] key = refl
+any_key place (row ∷ rows) key = ap (λ b. is_equal (value_at row.values place) key || b) (any_key place rows key)
+
+keys_of-append : (place : ℕ) (xs ys : List Row) → keys_of place (xs ++ ys) ≡ keys_of place xs ++ keys_of place ys
+keys_of-append place [] ys = refl
+keys_of-append place (x ∷ xs) ys = ap (λ l. value_at x.values place ∷ l) (keys_of-append place xs ys)
+
+keeps_key-keys : (place : ℕ) (before rows : List Row) → keeps_key (Some place) before rows ≡ keys_kept (keys_of place before) (keys_of place rows)
+unfolding keys_kept
+keeps_key-keys place before [] = refl
+keeps_key-keys place before (row ∷ rows) =
+    let key = value_at row.values place in
+    ap (λ b. not (is_null key || b) && keeps_key (Some place) (before ++ row ∷ []) rows) (any_key place before key)
+    ∙ ap (λ b. not (is_null key || list_any (λ k. is_equal k key) (keys_of place before)) && b) (keeps_key-keys place (before ++ row ∷ []) rows)
+    ∙ ap (λ l. not (is_null key || list_any (λ k. is_equal k key) (keys_of place before)) && keys_kept l (keys_of place rows)) (keys_of-append place before (row ∷ []))
+
+pub same_keys_kept : (place : ℕ) (rows news : List Row) → keys_of place news ≡ keys_of place rows → keeps_key (Some place) [] news ≡ keeps_key (Some place) [] rows
+same_keys_kept place rows news same = keeps_key-keys place [] news ∙ ap (keys_kept []) same ∙ sym (keeps_key-keys place [] rows)
+
+same_keys_any : (place : ℕ) (rows news : List Row) (key : Value) → keys_of place news ≡ keys_of place rows → has_key place news key ≡ has_key place rows key
+same_keys_any place rows news key same = any_key place news key ∙ ap (list_any (λ k. is_equal k key)) same ∙ sym (any_key place rows key)
+
+same_keys_only : (place : ℕ) (rows news : List Row) (key : Value) (i : ℕ) → keys_of place news ≡ keys_of place rows → IsOnly i (λ row. is_equal (value_at row.values place) key) rows → IsOnly i (λ row. is_equal (value_at row.values place) key) news
+same_keys_only place rows news key i same only = (
+  let long = sym (length-map news key_of) ∙ ap length same ∙ length-map rows key_of in let h = only.0 in omega (arith, long, h),
+  same_keys_any place (take i rows) (take i news) key (sym (take-map key_of i news) ∙ ap (take i) same ∙ take-map key_of i rows) ∙ only.1,
+  same_keys_any place (drop (i + 1) rows) (drop (i + 1) news) key (sym (drop-map key_of (i + 1) news) ∙ ap (drop (i + 1)) same ∙ drop-map key_of (i + 1) rows) ∙ only.2,
+)
+  where
+    key_of : Row → Value
+    key_of row = value_at row.values place
+
+-- an index of rows is one of rows with the same keys
+pub same_keys_indexed : (index : KeyIndex) (rows news : List Row) → keys_of index.place news ≡ keys_of index.place rows → Indexes (Some index) rows → Indexes (Some index) news
+same_keys_indexed index rows news same (has, finds, kept) = (
+  λ key. has key ∙ sym (same_keys_any index.place rows news key same),
+  λ key i found. same_keys_only index.place rows news key i same (finds key i found),
+  same_keys_kept index.place rows news same ∙ kept,
+)
+
+-- a row in the place of one with its key
+pub same_keys_set : (place : ℕ) (rows : List Row) (i : ℕ) (row : Row) → value_at row.values place ≡ value_at (get_or rows i row).values place → keys_of place (set rows i row) ≡ keys_of place rows
+same_keys_set place rows i row same = map-set_same (λ r. value_at r.values place) rows i row row same
+
+and_true : (a b : Bool) → a ≡ true → b ≡ true → (a && b) ≡ true
+and_true a b p q = ap (λ c. c && b) p ∙ q
+
+keeps_key-append : (key : Option ℕ) (before xs ys : List Row) → keeps_key key before (xs ++ ys) ≡ (keeps_key key before xs && keeps_key key (before ++ xs) ys)
+keeps_key-append key before [] ys = ap (λ l. keeps_key key l ys) (sym (append-nil before))
+keeps_key-append key before (x ∷ xs) ys =
+    ap (λ b. not (breaks_key key before x.values) && b) (keeps_key-append key (before ++ x ∷ []) xs ys)
+    ∙ ap (λ l. not (breaks_key key before x.values) && (keeps_key key (before ++ x ∷ []) xs && keeps_key key l ys)) (append_assoc before (x ∷ []) xs)
+    ∙ sym (and_assoc (not (breaks_key key before x.values)) (keeps_key key (before ++ x ∷ []) xs) (keeps_key key (before ++ x ∷ xs) ys))
+  where
+    and_assoc : (a b c : Bool) → ((a && b) && c) ≡ (a && (b && c))
+    and_assoc true b c = refl
+    and_assoc false b c = refl
+
+-- rows that keep the constraint, and more that keep it behind them
+pub keeps_key_both : (key : Option ℕ) (before rows : List Row) → keeps_key key [] before ≡ true → keeps_key key before rows ≡ true → keeps_key key [] (before ++ rows) ≡ true
+keeps_key_both key before rows p q = keeps_key-append key [] before rows ∙ and_true (keeps_key key [] before) (keeps_key key before rows) p q
+
+only_row : (news : List Row) (row : Row) → length news ≡ 1 → row ≡ get_or news 0 row → news ≡ row ∷ []
+only_row [] row h is = absurd (omega arith)
+only_row (x ∷ []) row h is = ap (λ r. r ∷ []) (sym is)
+only_row (x ∷ y ∷ news) row h is = absurd (omega arith)
+
+-- the last of one row
+pub popped_only : (news rest : List Row) (row : Row) → length news ≡ 1 → news ≡ rest ++ row ∷ [] → row ≡ get_or news 0 row
+popped_only news [] row one is = ap (λ l. get_or l 0 row) (sym is)
+popped_only news (x ∷ rest) row one is =
+    let long = length-append (x ∷ rest) (row ∷ []) in
+    let same = ap length is in
+    absurd (omega arith)
+
+set_between : (rows : List Row) (i : ℕ) (row : Row) → i < length rows → set rows i row ≡ take i rows ++ (row ∷ []) ++ drop (i + 1) rows
+set_between rows i row h =
+    sym (take-append-drop (i + 1) (set rows i row))
+    ∙ ap (λ l. l ++ drop (i + 1) (set rows i row)) (take_more_set rows i row h)
+    ∙ ap (λ l. take i rows ++ (row ∷ []) ++ l) (drop-set-lt (i + 1) rows i row (omega arith))
+
+-- one row in the place of another
+pub replaced_one : (rows : List Row) (span : Span) (news : List Row) (row : Row) → length news ≡ 1 → row ≡ get_or news 0 row → span.from + 1 ≡ span.to → span.from < length rows → replaced rows span news ≡ set rows span.from row
+replaced_one rows span news row one is to h =
+    ap (λ l. take span.from rows ++ l ++ drop span.to rows) (only_row news row one is)
+    ∙ ap (λ n. take span.from rows ++ (row ∷ []) ++ drop n rows) (sym to)
+    ∙ sym (set_between rows span.from row h)
+
+-- rows, from those at some places and those about them
+pub rows_between : (rows : List Row) (from to : ℕ) → from ≤ to → to ≤ length rows → rows ≡ take from rows ++ slice_range rows from to ++ drop to rows
+rows_between rows from to h k =
+    let e : from + (to - from) ≡ to = omega arith in
+    sym (take-append-drop from rows)
+    ∙ ap (λ l. take from rows ++ l) (sym (take-append-drop (to - from) (drop from rows)) ∙ ap (λ l. take (to - from) (drop from rows) ++ l) (drop-drop (to - from) from rows ∙ ap (λ n. drop n rows) e))
+    ∙ sym (append_assoc (take from rows) (take (to - from) (drop from rows)) (drop to rows))

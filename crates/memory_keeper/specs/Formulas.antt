@@ -1,6 +1,6 @@
 -- Expressions whose names and parameters are resolved, and their values on a row.
-use Rattle.std.specs.Prelude.{ℕ, ◌-◌, Bool, List, [], ◌∷◌, Option, Some, None, Result, Ok, Err, slice_set}
-use Rattle.std.specs.List.{position}
+use Rattle.std.specs.Prelude.{ℕ, ◌-◌, Bool, true, false, ◌&&◌, List, [], ◌∷◌, Option, Some, None, Result, Ok, Err, slice_set}
+use Rattle.std.specs.List.{position, list_all}
 use Rattle.std.specs.Str.{str_eq_ignore_ascii_case}
 use Rattle.hrana_value.specs.declared.value.Value.{Value}
 use Rattle.hrana_value.specs.declared.value.Value.TheVariants as value
@@ -50,6 +50,14 @@ abbrev pub equation_of : List (List ℕ) → List Value → ColExpr → Result E
 equation_of columns bound set =
     and_then (known (place_of columns set.column))
     (λ place. map_ok (λ formula. record { place = place; formula = formula }) (formula_of columns bound set.expr))
+
+-- the operand has one value on all rows
+abbrev pub is_constant : Operand → Bool
+is_constant (Constant v) = true
+is_constant (Column place) = false
+
+abbrev pub names_no_column : Formula → Bool
+names_no_column formula = is_constant formula.first && list_all (λ addend. is_constant addend.operand) formula.rest
 
 abbrev pub operand_value : List Value → Operand → Value
 operand_value row (Constant v) = v

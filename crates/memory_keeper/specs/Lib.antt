@@ -2,7 +2,9 @@ pub mod Refusals
 pub mod Values
 pub mod Each
 pub mod Formulas
+pub mod Constraint
 pub mod Tables
 pub mod Keys
+pub mod Spans
 pub mod Exec
 pub mod Meaning

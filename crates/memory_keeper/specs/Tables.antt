@@ -1,6 +1,6 @@
 -- Tables, and what the statements on one table mean.
-use Rattle.std.specs.Prelude.{ℕ, ℤ, pos, zero, suc, ◌+◌, ◌-◌, ◌^◌, ◌==◌, nat_lt, nat_le, Bool, true, false, not, ◌&&◌, ◌||◌, List, [], ◌∷◌, ◌++◌, length, map, filter, replicate, count_by, Option, Some, None, Result, Ok, Err, if◌then◌else◌}
-use Rattle.std.specs.List.{position, list_any, range_with_len, zip}
+use Rattle.std.specs.Prelude.{ℕ, ℤ, pos, zero, suc, ◌+◌, ◌-◌, ◌^◌, ◌==◌, nat_lt, nat_le, Bool, true, false, not, ◌&&◌, List, [], ◌∷◌, ◌++◌, length, map, filter, replicate, count_by, Option, Some, None, Result, Ok, Err, if◌then◌else◌}
+use Rattle.std.specs.List.{position, range_with_len, zip}
 use Rattle.hrana_value.specs.declared.value.Value.{Value}
 use Rattle.hrana_value.specs.declared.value.Value.TheVariants.{Null, Integer}
 use Rattle.memory_keeper.specs.declared.fail.Refusal.{Refusal}
@@ -19,7 +19,7 @@ use Rattle.memory_keeper.specs.declared.formulas.Picture.TheVariants as picture
 use Rattle.memory_keeper.specs.declared.tables.Row.{Row}
 use Rattle.memory_keeper.specs.declared.tables.Table.{Table}
 use Rattle.memory_keeper.specs.Each.{and_then, map_ok, each, somes}
-use Rattle.memory_keeper.specs.Values.{value_at, is_null, is_equal}
+use Rattle.memory_keeper.specs.Constraint.{breaks_key, keeps_key}
 use Rattle.memory_keeper.specs.Formulas.{place_of, known, formula_of, equation_of, formula_value, is_met, assigned}
 
 -- ---- results
@@ -99,26 +99,6 @@ select columns rows shown wanted bound =
     (λ condition. and_then (shown_rows picture condition rows)
     (λ given. fitting (names_of columns shown) given)))
 
--- ---- keys
-
--- a row has this key
-abbrev pub has_key : ℕ → List Row → Value → Bool
-has_key place rows value = list_any (λ row. is_equal (value_at row.values place) value) rows
-
--- the key is null, or that of a row
-abbrev pub is_taken : ℕ → List Row → Value → Bool
-is_taken place rows value = is_null value || has_key place rows value
-
--- the key of a new row is null, or that of a row that is there
-abbrev pub breaks_key : Option ℕ → List Row → List Value → Bool
-breaks_key None rows values = false
-breaks_key (Some place) rows values = is_taken place rows (value_at values place)
-
--- no row breaks the key of those before it
-abbrev pub keeps_key : Option ℕ → List Row → List Row → Bool
-keeps_key key before [] = true
-keeps_key key before (row ∷ rows) = not (breaks_key key before row.values) && keeps_key key (before ++ row ∷ []) rows
-
 -- ---- insert
 
 -- the places that the values of a tuple go to
@@ -184,15 +164,16 @@ renewed (row ∷ rows) (new ∷ news) = renewed_row row new ∷ renewed rows new
 abbrev pub all_renewed : Option Equation → List Equation → List Row → Result (List Row × ℕ) Refusal
 all_renewed condition sets rows = map_ok (λ news. (renewed rows news, length (somes news))) (each (renewal condition sets) rows)
 
-abbrev pub updated : Table → List Row → ℕ → Result (Table × StmtResult) Refusal
-updated table rows count = if keeps_key table.key [] rows then Ok (record table { rows = rows }, done count None) else Err Constraint
+-- the same, where the new rows keep the constraint of the key
+abbrev pub all_updated : Option ℕ → Option Equation → List Equation → List Row → Result (List Row × ℕ) Refusal
+all_updated key condition sets rows = and_then (all_renewed condition sets rows) (λ new. if keeps_key key [] new.0 then Ok new else Err Constraint)
 
 -- all new rows have their values from the old ones
 abbrev pub update : Table → List ColExpr → Option ColExpr → List Value → Result (Table × StmtResult) Refusal
 update table sets wanted bound =
     and_then (each (equation_of table.columns bound) sets)
     (λ equations. and_then (condition_of table.columns bound wanted)
-    (λ condition. and_then (all_renewed condition equations table.rows) (λ new. updated table new.0 new.1)))
+    (λ condition. map_ok (λ new. (record table { rows = new.0 }, done new.1 None)) (all_updated table.key condition equations table.rows)))
 
 abbrev pub is_ok_true : Result Bool Refusal → Bool
 is_ok_true (Ok chosen) = chosen

@@ -1,17 +1,37 @@
 // `DELETE`.
-ghost use Rattle.std.specs.Prelude.{◌≡◌, IfOk};
+ghost use Rattle.std.specs.Prelude.{◌≡◌, filter, IfOk, OnOk, OnErr};
 ghost use Rattle.engine_core.specs.Results.{IsSmall};
 ghost use Rattle.memory_keeper.specs.Each.{Changes};
-ghost use Rattle.memory_keeper.specs.Tables.{delete};
+ghost use Rattle.memory_keeper.specs.Tables.{stays, chosen_count, delete};
 
-use crate::fail::Fail;
+use crate::fail::{Fail, Refusal};
+use crate::formulas::Equation;
 use crate::resolve::condition_of;
 use crate::rows::{chosen_count, done};
-use crate::tables::Table;
+use crate::tables::{Table, TableRows};
 use hrana_stmt::StmtResult;
 use hrana_value::Value;
 use keeper_dialect::ColExpr;
 use std::alloc::Global;
+
+/// Removes the rows that a condition chooses, and says how many.
+fn delete_rows(
+    alloc: Global,
+    key: Option<usize>,
+    rows: &mut TableRows,
+    condition: &Option<Equation>,
+) -> Result<usize, Refusal>
+    ensures count { result ≡ chosen_count condition.now rows.old }
+    ensures rows { OnOk result (rows.new ≡ filter (stays condition.now) rows.old) }
+    ensures err { OnErr result (rows.new ≡ rows.old) }
+{
+    let count = chosen_count(condition, rows.candidates(condition))?;
+    if count > 0 {
+        rows.remove_chosen(condition);
+        rows.index_by(alloc, key);
+    }
+    Ok(count)
+}
 
 /// Runs a `DELETE` on its table. The next rowid stays.
 pub fn delete(
@@ -24,8 +44,6 @@ pub fn delete(
     ensures small { IfOk result IsSmall }
 {
     let condition = condition_of(alloc, table.columns.as_slice(), bound, wanted)?;
-    let count = chosen_count(&condition, table.rows.as_slice())?;
-    table.rows.remove_chosen(&condition);
-    table.rows.index_by(alloc, table.key);
+    let count = delete_rows(alloc, table.key, &mut table.rows, &condition)?;
     Ok(done(alloc, count, None))
 }

@@ -1,9 +1,10 @@
 // Expressions whose names and parameters are resolved, and their values on a row.
-ghost use Rattle.std.specs.Prelude.{◌≡◌, [], ◌∷◌, ◌++◌, OnOk, OnErr, IfOk};
+ghost use Rattle.std.specs.Prelude.{◌≡◌, [], ◌∷◌, ◌++◌, OnOk, OnErr, IfOk, IfSome};
+ghost use Rattle.std.specs.List.{list_all};
 ghost use Rattle.std.specs.Option.{option_copied};
 ghost use Rattle.memory_keeper.specs.Each.{Gives, map_ok};
 ghost use Rattle.memory_keeper.specs.Values.{value_at, value_or_null, sum_of, is_equal};
-ghost use Rattle.memory_keeper.specs.Formulas.{operand_value, sums, formula_value, is_met};
+ghost use Rattle.memory_keeper.specs.Formulas.{is_constant, names_no_column, operand_value, sums, formula_value, is_met};
 
 use crate::fail::{Fail, Refusal};
 use crate::values::{copy_or_null, is_equal, sum_of};
@@ -232,6 +233,38 @@ pub fn formula_value(alloc: Global, row: &[Value], formula: &Formula) -> Result<
     match formula.rest.as_slice() {
         [] => Ok(copy_or_null(alloc, operand_value(row, &formula.first))?),
         [addend, rest @ ..] => Ok(sum_on_row(row, &formula.first, addend, rest)?),
+    }
+}
+
+fn is_constant(operand: &Operand) -> bool
+    ensures { result ≡ is_constant operand.now }
+{
+    match operand {
+        Operand::Constant(_) => true,
+        Operand::Column(_) => false,
+    }
+}
+
+fn are_constant(addends: &[Addend]) -> bool
+    ensures { result ≡ list_all (λ addend. is_constant addend.operand) addends.now }
+{
+    addends.iter().all(|addend| is_constant(&addend.operand))
+}
+
+/// Whether an expression has one value on all rows.
+pub fn names_no_column(formula: &Formula) -> bool
+    ensures { result ≡ names_no_column formula.now }
+{
+    is_constant(&formula.first) && are_constant(formula.rest.as_slice())
+}
+
+/// The value of an expression with an operator on a row of no columns.
+pub fn constant_sum(formula: &Formula) -> Option<Result<Value, Refusal>>
+    ensures { IfSome result (λ value. value ≡ formula_value [] formula.now) }
+{
+    match formula.rest.as_slice() {
+        [] => None,
+        [second, rest @ ..] => Some(sum_on_row(&[], &formula.first, second, rest)),
     }
 }
 

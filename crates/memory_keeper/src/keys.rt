@@ -1,16 +1,17 @@
 // The places of rows by their keys, so that a key is found in a time that is logarithmic in the rows.
-ghost use Rattle.std.specs.Prelude.{◌≡◌, ◌+◌, ◌<◌, ◌^◌, length, take, drop, ℕ, ℤ, List, [], None, Some, ◌++◌, ◌||◌, not, cond, is_some, IsTrue, IfOk, IfSome, OnOk};
+ghost use Rattle.std.specs.Prelude.{◌≡◌, ◌+◌, ◌<◌, ◌^◌, length, take, drop, ℕ, ℤ, List, [], None, Some, get_or, ◌++◌, ◌||◌, not, cond, is_some, IsTrue, IfOk, IfSome, OnOk};
 ghost use Rattle.std.specs.Option.{option_copied};
 ghost use Rattle.std.specs.BTreeMap.{get};
 ghost use Rattle.std.specs.Ordering.{int_cmp, int_eq};
 ghost use Rattle.std.specs.Str.{bytes_eq};
 ghost use Rattle.hrana_value.specs.declared.value.Value.{Value as SqlValue};
-ghost use Rattle.memory_keeper.specs.Keys.{place_of_bytes, place_of_key, HasKeysOf, FindsOnly, Narrows};
+ghost use Rattle.memory_keeper.specs.Keys.{place_of_bytes, place_of_key, HasKeysOf, FindsOnly, Encloses};
 ghost use Rattle.memory_keeper.specs.declared.tables.Row.{Row};
-ghost use Rattle.memory_keeper.specs.Tables.{keeps_key};
+ghost use Rattle.memory_keeper.specs.Constraint.{keeps_key};
 ghost use Rattle.memory_keeper.specs.Values.{value_at, value_or_null, is_null, is_equal};
 
-use crate::formulas::value_at;
+use crate::formulas::{are_equal, value_at};
+use crate::spans::{Span, one_place};
 use crate::tables::Row;
 use crate::values::is_null;
 use hrana_value::{NoMemory, Value};
@@ -160,22 +161,24 @@ impl KeyIndex {
     }
 }
 
-/// The row at a place alone.
-fn row_at(rows: &[Row], place: usize) -> &[Row]
-    requires { place < length rows.now }
-    ensures { rows.now ≡ take place rows.now ++ result.now ++ drop (place + 1) rows.now }
-{
-    &rows[place..place + 1]
-}
-
-/// The row with a key, or none.
-pub fn rows_with_key<'a>(rows: &'a [Row], index: &KeyIndex, key: &Value) -> &'a [Row]
+/// The place of the row with a key, or no place.
+pub fn span_with_key(rows: &[Row], index: &KeyIndex, key: &Value) -> Span
     requires keys { HasKeysOf index.now rows.now }
     requires finds { FindsOnly index.now rows.now }
-    ensures { Narrows (λ row. is_equal (value_at row.values index.now.place) key.now) result.now rows.now }
+    ensures { Encloses (λ row. is_equal (value_at row.values index.now.place) key.now) result rows.now }
 {
     match index.get(key) {
-        Some(place) => row_at(rows, place),
-        None => &rows[..0],
+        Some(place) => one_place(rows, place),
+        None => Span { from: 0, to: 0 },
     }
+}
+
+/// Whether a row has the key of the row at a place.
+pub fn has_key_at(rows: &[Row], index: &KeyIndex, place: usize, row: &Row) -> bool
+    requires { place < length rows.now }
+    ensures { IsTrue result → value_at row.now.values index.now.place ≡ value_at (get_or rows.now place row.now).values index.now.place }
+{
+    let old = value_at(rows[place].values.as_slice(), index.place);
+    let new = value_at(row.values.as_slice(), index.place);
+    are_equal(old, new)
 }

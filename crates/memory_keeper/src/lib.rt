@@ -14,6 +14,7 @@ mod queries;
 mod resolve;
 mod rows;
 mod select;
+mod spans;
 mod tables;
 #[cfg(test)]
 mod tests;
@@ -24,4 +25,5 @@ pub use fail::Refusal;
 pub use formulas::{Addend, Addends, Equation, Equations, Formula, Formulas, Operand, Picture};
 pub use keeper::MemoryKeeper;
 pub use laws::class_refuses_nothing;
+pub use spans::Span;
 pub use tables::{Database, Row, Table, TableRows};

@@ -6,10 +6,11 @@ ghost use Rattle.memory_keeper.specs.declared.tables.Row.{Row};
 ghost use Rattle.memory_keeper.specs.Each.{Gives};
 ghost use Rattle.memory_keeper.specs.Formulas.{assigned};
 ghost use Rattle.memory_keeper.specs.Values.{value_at, value_or_null, is_equal};
-ghost use Rattle.memory_keeper.specs.Tables.{is_chosen, stays, chosen_count, has_key, is_taken, breaks_key, done};
+ghost use Rattle.memory_keeper.specs.Constraint.{has_key, is_taken, breaks_key};
+ghost use Rattle.memory_keeper.specs.Tables.{is_chosen, stays, chosen_count, done};
 
 use crate::fail::{Fail, Refusal};
-use crate::formulas::{Equation, Operand, formula_value, is_met};
+use crate::formulas::{Equation, Operand, constant_sum, formula_value, is_met, names_no_column};
 use crate::tables::{Row, TableRows};
 use crate::values::{is_equal, is_null};
 use hrana_stmt::{Cols, Rows, StmtResult};
@@ -48,6 +49,22 @@ pub fn constant_of(place: usize, condition: &Option<Equation>) -> Option<&Value>
     }
     match (equation.formula.rest.as_slice(), &equation.formula.first) {
         ([], Operand::Constant(value)) => Some(value),
+        _ => None,
+    }
+}
+
+/// The same of the value of an expression with an operator that names no column and has a value.
+pub fn sum_of_constants(place: usize, condition: &Option<Equation>) -> Option<Value>
+    ensures { IfSome result (λ value. (row : Row) → is_chosen condition.now row ≡ Ok (is_equal (value_at row.values place) value)) }
+{
+    let Some(equation) = condition else {
+        return None;
+    };
+    if equation.place != place || !names_no_column(&equation.formula) {
+        return None;
+    }
+    match constant_sum(&equation.formula) {
+        Some(Ok(value)) => Some(value),
         _ => None,
     }
 }

@@ -1,16 +1,19 @@
 // Tables and their rows.
-ghost use Rattle.std.specs.Prelude.{◌≡◌, ◌+◌, ◌<◌, ◌^◌, length, List, [], ◌∷◌, ◌++◌, OnOk, OnErr, IfOk, IfSome, is_some, filter};
+ghost use Rattle.std.specs.Prelude.{◌≡◌, ◌+◌, ◌<◌, ◌≤◌, ◌^◌, true, false, length, List, [], ◌∷◌, ◌++◌, slice_set, IsTrue, OnOk, OnErr, IfOk, IfSome, is_some, filter};
 ghost use Rattle.engine_core.specs.Results.{IsSmall};
 ghost use Rattle.memory_keeper.specs.declared.formulas.Picture.{Picture};
 ghost use Rattle.memory_keeper.specs.declared.tables.Row.{Row};
 ghost use Rattle.memory_keeper.specs.Keys.{Indexes, HasKeysOf, FindsOnly};
-ghost use Rattle.memory_keeper.specs.Tables.{stays, has_key, keeps_key, shown_rows};
+ghost use Rattle.memory_keeper.specs.Constraint.{has_key, keeps_key};
+ghost use Rattle.memory_keeper.specs.Spans.{Spans, replaced};
+ghost use Rattle.memory_keeper.specs.Tables.{stays, shown_rows, chosen_count};
 ghost use Rattle.memory_keeper.specs.Exec.{exec, RunsAs};
 
 use crate::execute::execute;
 use crate::formulas::Equation;
-use crate::keys::{KeyIndex, rows_with_key};
-use crate::rows::{constant_of, has_key, stays};
+use crate::keys::{KeyIndex, has_key_at, span_with_key};
+use crate::rows::{constant_of, has_key, stays, sum_of_constants};
+use crate::spans::{Span, rows_at};
 use engine_core::{BoundStmt, EngineFail};
 use hrana_stmt::StmtResult;
 use hrana_value::{NoMemory, Txt, Value, Values};
@@ -91,16 +94,89 @@ fn grown_index(
     }
 }
 
-/// The row that a condition may choose, where it says that the key is a constant, else all rows.
-fn narrowed<'a>(rows: &'a [Row], index: &KeyIndex, condition: &Option<Equation>) -> &'a [Row]
+/// All places of rows.
+fn all_places(condition: &Option<Equation>, rows: &[Row]) -> Span
+    ensures { Spans condition.now result rows.now }
+{
+    Span {
+        from: 0,
+        to: rows.len(),
+    }
+}
+
+/// The place of the row that a condition may choose, where it says what the key is, else all places.
+fn span_of(rows: &[Row], index: &KeyIndex, condition: &Option<Equation>) -> Span
     requires keys { HasKeysOf index.now rows.now }
     requires finds { FindsOnly index.now rows.now }
-    ensures { (picture : Picture) → shown_rows picture condition.now result.now ≡ shown_rows picture condition.now rows.now }
+    ensures { Spans condition.now result rows.now }
 {
-    match constant_of(index.place, condition) {
-        Some(key) => rows_with_key(rows, index, key),
-        None => rows,
+    if let Some(key) = constant_of(index.place, condition) {
+        return span_with_key(rows, index, key);
     }
+    match sum_of_constants(index.place, condition) {
+        Some(key) => span_with_key(rows, index, &key),
+        None => all_places(condition, rows),
+    }
+}
+
+/// Whether a row may stand in the place of another with its key, so that the index stays and the constraint is kept.
+fn is_like(
+    rows: &[Row],
+    index: &Option<KeyIndex>,
+    key: Option<usize>,
+    place: usize,
+    row: &Row,
+) -> bool
+    requires within { place < length rows.now }
+    requires index { Indexes index.now rows.now }
+    ensures keys { IsTrue result → Indexes index.now (slice_set rows.now place row.now) }
+    ensures kept { IsTrue result → keeps_key key [] (slice_set rows.now place row.now) ≡ true }
+{
+    match (index, key) {
+        (Some(index), Some(column)) => {
+            index.place == column && has_key_at(rows, index, place, row)
+        }
+        _ => false,
+    }
+}
+
+/// Puts a row in the place of one.
+fn put_only(rows: &mut Vec<Row>, span: Span, mut news: Vec<Row>)
+    requires one { length news.items ≡ 1 }
+    requires place { span.from + 1 ≡ span.to }
+    requires within { span.to ≤ length rows.old.items }
+    ensures { rows.new.items ≡ replaced rows.old.items span news.items }
+{
+    if let Some(row) = news.pop() {
+        rows[span.from] = row;
+    }
+}
+
+fn push_copies(alloc: Global, copies: &mut Vec<Row>, rows: &[Row]) -> Result<(), NoMemory>
+    ensures { OnOk result (copies.new.items ≡ copies.old.items ++ rows.now) }
+{
+    for row in rows {
+        copies.push(row.copy(alloc)?)?;
+    }
+    Ok(())
+}
+
+/// The rows with others in the place of those at some places.
+fn replaced(
+    alloc: Global,
+    rows: &[Row],
+    span: Span,
+    mut news: Vec<Row>,
+) -> Result<Vec<Row>, NoMemory>
+    requires ordered { span.from ≤ span.to }
+    requires within { span.to ≤ length rows.now }
+    ensures { IfOk result (λ all. all.items ≡ replaced rows.now span news.items) }
+{
+    let mut all = Vec::new(alloc);
+    push_copies(alloc, &mut all, &rows[..span.from])?;
+    all.append(&mut news)?;
+    push_copies(alloc, &mut all, &rows[span.to..])?;
+    Ok(all)
 }
 
 impl TableRows {
@@ -180,14 +256,54 @@ impl TableRows {
         }
     }
 
-    /// Rows of which a condition chooses what it chooses of all: the row with the key, where the condition says that the key
-    /// is a constant, else all rows.
-    pub fn candidates(&self, condition: &Option<Equation>) -> &[Row]
-        ensures { (picture : Picture) → shown_rows picture condition.now result.now ≡ shown_rows picture condition.now self.now }
+    /// The places that a condition may choose: that of the row with the key, where the condition says that the key equals an
+    /// expression that names no column, else all.
+    pub fn span_of(&self, condition: &Option<Equation>) -> Span
+        ensures { Spans condition.now result self.now }
     {
         match &self.index {
-            Some(index) => narrowed(self.items.as_slice(), index, condition),
-            None => self.items.as_slice(),
+            Some(index) => span_of(self.items.as_slice(), index, condition),
+            None => all_places(condition, self.items.as_slice()),
+        }
+    }
+
+    /// The rows that a condition may choose.
+    pub fn candidates(&self, condition: &Option<Equation>) -> &[Row]
+        ensures shown { (picture : Picture) → shown_rows picture condition.now result.now ≡ shown_rows picture condition.now self.now }
+        ensures count { chosen_count condition.now result.now ≡ chosen_count condition.now self.now }
+    {
+        rows_at(self.items.as_slice(), self.span_of(condition))
+    }
+
+    /// Puts rows in the place of those at some places, if none breaks the key of those before it then, and says whether.
+    pub fn replace(
+        &mut self,
+        alloc: Global,
+        key: Option<usize>,
+        span: Span,
+        news: Vec<Row>,
+    ) -> Result<bool, NoMemory>
+        requires ordered { span.from ≤ span.to }
+        requires within { span.to ≤ length self.old }
+        requires as_many { span.from + length news.items ≡ span.to }
+        ensures kept { IfOk result (λ kept. kept ≡ keeps_key key [] (replaced self.old span news.items)) }
+        ensures put { IfOk result (λ kept. IsTrue kept → self.new ≡ replaced self.old span news.items) }
+        ensures left { IfOk result (λ kept. kept ≡ false → self.new ≡ self.old) }
+        ensures err { OnErr result (self.new ≡ self.old) }
+    {
+        if let [row] = news.as_slice() {
+            if is_like(self.items.as_slice(), &self.index, key, span.from, row) {
+                put_only(&mut self.items, span, news);
+                return Ok(true);
+            }
+        }
+        let all = replaced(alloc, self.items.as_slice(), span, news)?;
+        match TableRows::with_key(alloc, key, all)? {
+            Some(rows) => {
+                *self = rows;
+                Ok(true)
+            }
+            None => Ok(false),
         }
     }
 

@@ -284,6 +284,49 @@ fn an_update_reads_old_rows(rt: HostRuntime) -> Result<(), Fail> {
 }
 
 #[test]
+fn a_key_finds_its_row(rt: HostRuntime) -> Result<(), Fail> {
+    play(
+        &rt,
+        rt.alloc(),
+        &[
+            ("CREATE TABLE t (k PRIMARY KEY, v)", " 0"),
+            // No row, so no row on which the condition could be refused.
+            ("SELECT v FROM t WHERE k = 'x' + 1", "v| 0"),
+            (
+                "INSERT INTO t VALUES (1, 'a'), ('1', 'b'), (X'31', 'c')",
+                " 3 3",
+            ),
+            ("SELECT v FROM t WHERE k = 1", "v| ('a' ) 0"),
+            ("SELECT v FROM t WHERE k = '1'", "v| ('b' ) 0"),
+            ("SELECT v FROM t WHERE k = X'31'", "v| ('c' ) 0"),
+            ("SELECT v FROM t WHERE k = 3 - 1 - 1", "v| ('a' ) 0"),
+            ("SELECT v FROM t WHERE k = NULL", "v| 0"),
+            ("SELECT v FROM t WHERE k = 1 + NULL", "v| 0"),
+            ("SELECT v FROM t WHERE k = 'x' + 1", "Refused(BadType)"),
+            (
+                "SELECT v FROM t WHERE k = 9223372036854775807 + 1",
+                "Refused(Overflow)",
+            ),
+            ("SELECT k FROM t WHERE v = 'b'", "k| ('1' ) 0"),
+            ("UPDATE t SET v = 'd' WHERE k = 2 - 1", " 1"),
+            ("UPDATE t SET k = 2 WHERE k = 1", " 1"),
+            ("SELECT v FROM t WHERE k = 1", "v| 0"),
+            ("SELECT v FROM t WHERE k = 2", "v| ('d' ) 0"),
+            ("UPDATE t SET k = '1' WHERE k = 2", "Refused(Constraint)"),
+            ("UPDATE t SET k = NULL WHERE k = 2", "Refused(Constraint)"),
+            ("UPDATE t SET k = 2, v = k WHERE k = 2", " 1"),
+            ("UPDATE t SET v = 7 WHERE k = 7", " 0"),
+            ("DELETE FROM t WHERE k = 7", " 0"),
+            ("DELETE FROM t WHERE k = '1'", " 1"),
+            ("SELECT v FROM t WHERE k = X'31'", "v| ('c' ) 0"),
+            ("INSERT INTO t VALUES ('1', 'e')", " 1 4"),
+            ("INSERT INTO t VALUES (X'31', 'f')", "Refused(Constraint)"),
+            ("SELECT * FROM t", "k|v| (2 2 ) (x[49] 'c' ) ('1' 'e' ) 0"),
+        ],
+    )
+}
+
+#[test]
 fn results_have_limits(rt: HostRuntime) -> Result<(), Fail> {
     let alloc = rt.alloc();
     let mut db = Database::new(alloc);
@@ -338,5 +381,20 @@ fn transactions_work_on_copies(rt: HostRuntime) -> Result<(), Fail> {
     assert_eq!(rt; keeper.run(7, &select)?.rows.as_slice().len(), 1);
     keeper.drop_txn(7);
     assert_eq!(rt; keeper.alone(&select)?.rows.as_slice().len(), 0);
+    Ok(())
+}
+
+#[test]
+fn commits_are_kept(rt: HostRuntime) -> Result<(), Fail> {
+    let alloc = rt.alloc();
+    let mut keeper = MemoryKeeper::new(alloc)?;
+    let create = statement(alloc, "CREATE TABLE t (a)", Values::new(alloc))?;
+    let insert = statement(alloc, "INSERT INTO t VALUES (1)", Values::new(alloc))?;
+    let select = statement(alloc, "SELECT a FROM t", Values::new(alloc))?;
+    keeper.alone(&create)?;
+    keeper.begin(8, true)?;
+    keeper.run(8, &insert)?;
+    keeper.commit(8)?;
+    assert_eq!(rt; keeper.alone(&select)?.rows.as_slice().len(), 1);
     Ok(())
 }

@@ -2,12 +2,13 @@
 ghost use Rattle.std.specs.Prelude.{◌≡◌, ◌≤◌, ◌∷◌, [], length, Ok, IfOk, IfErr};
 ghost use Rattle.engine_core.specs.Results.{IsSmall};
 ghost use Rattle.memory_keeper.specs.Each.{somes, Gives, Refuses, Changes};
-ghost use Rattle.memory_keeper.specs.Tables.{renewal, renewed_row, all_renewed, update};
+ghost use Rattle.memory_keeper.specs.Tables.{renewal, renewed_row, all_renewed, all_updated, update};
 
 use crate::fail::{Fail, Refusal};
 use crate::formulas::Equation;
 use crate::resolve::{condition_of, equations_of};
 use crate::rows::{assigned, done, is_chosen};
+use crate::spans::rows_at;
 use crate::tables::{Row, Table, TableRows};
 use hrana_stmt::StmtResult;
 use hrana_value::{NoMemory, Value, Values};
@@ -78,6 +79,7 @@ fn all_renewed(
 ) -> Result<Renewed, Fail>
     ensures ok { IfOk result (λ new. all_renewed condition.now sets.now rows.now ≡ Ok (new.rows.items, new.count)) }
     ensures err { IfErr result (Refuses (all_renewed condition.now sets.now rows.now)) }
+    ensures many { IfOk result (λ new. length new.rows.items ≡ length rows.now) }
 {
     let mut new_rows = Vec::new(alloc);
     let mut count = 0;
@@ -90,6 +92,26 @@ fn all_renewed(
         rows: new_rows,
         count,
     })
+}
+
+/// Gives the rows that a condition chooses their new values, and says how many.
+fn update_rows(
+    alloc: Global,
+    key: Option<usize>,
+    rows: &mut TableRows,
+    condition: &Option<Equation>,
+    sets: &[Equation],
+) -> Result<usize, Fail>
+    ensures { Changes (all_updated key condition.now sets.now rows.old) rows.old result rows.new }
+{
+    let span = rows.span_of(condition);
+    let new = all_renewed(alloc, condition, sets, rows_at(rows.as_slice(), span))?;
+    let count = new.count;
+    if rows.replace(alloc, key, span, new.rows)? {
+        Ok(count)
+    } else {
+        Err(Fail::Refused(Refusal::Constraint))
+    }
 }
 
 /// Runs an `UPDATE` on its table.
@@ -105,15 +127,12 @@ pub fn update(
 {
     let equations = equations_of(alloc, table.columns.as_slice(), bound, sets)?;
     let condition = condition_of(alloc, table.columns.as_slice(), bound, wanted)?;
-    let Renewed { rows, count } = all_renewed(
+    let count = update_rows(
         alloc,
+        table.key,
+        &mut table.rows,
         &condition,
         equations.as_slice(),
-        table.rows.as_slice(),
     )?;
-    let Some(rows) = TableRows::with_key(alloc, table.key, rows)? else {
-        return Err(Fail::Refused(Refusal::Constraint));
-    };
-    table.rows = rows;
     Ok(done(alloc, count, None))
 }

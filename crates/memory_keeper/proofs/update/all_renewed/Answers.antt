@@ -1,4 +1,4 @@
-use Rattle.std.proofs.Common.{◌∷◌, [], ◌++◌, ◌+◌, Ok, length, sym, ap, ◌∙◌, arith}
+use Rattle.std.proofs.Common.{◌∷◌, [], ◌++◌, ◌+◌, Ok, length, length-append, sym, ap, ◌∙◌, arith}
 use Rattle.memory_keeper.specs.Each.{somes}
 use Rattle.memory_keeper.specs.Tables.{all_renewed}
 use Rattle.memory_keeper.proofs.EachLemmas.{err_refused}
@@ -25,4 +25,5 @@ loop-row-preserved c =
           ∙ ap (λ r. Ok (made ++ r ∷ [], n + length (somes (new ∷ [])))) (sym c.in_ok-renewed_row.ensures)
           ∙ ap (λ m. Ok (made ++ c.in_ok-renewed_row.field-0 ∷ [], n + m)) (sym c.change_count.ensures.count));
       within = omega arith;
+      many = ap length c.in_ok-push.ensures.items ∙ length-append made (c.in_ok-renewed_row.field-0 ∷ []) ∙ omega arith;
     }

@@ -4,7 +4,7 @@ use Rattle.std.specs.Option.{option_copied}
 use Rattle.memory_keeper.proofs.KeyLemmas.{keeps_key_more, has_keys_more, finds_more, added_new}
 use Rattle.memory_keeper.specs.Keys.{place_of_key, FindsOnly}
 use Rattle.memory_keeper.specs.declared.tables.Row.{Row}
-use Rattle.memory_keeper.specs.Tables.{keeps_key}
+use Rattle.memory_keeper.specs.Constraint.{keeps_key}
 use Rattle.memory_keeper.specs.Values.{value_at, value_or_null, is_null}
 use Rattle.memory_keeper.proofs.keys.KeyIndex.add_rows.Goals as goal
 

@@ -1,7 +1,7 @@
 use Rattle.std.proofs.Common.{◌≡◌, List, Some, ◌++◌, take, drop, length}
 use Rattle.memory_keeper.specs.declared.tables.Row.{Row}
 use Rattle.memory_keeper.specs.Keys.{HasKeysOf, FindsOnly}
-use Rattle.memory_keeper.specs.Tables.{keeps_key}
+use Rattle.memory_keeper.specs.Constraint.{keeps_key}
 use Rattle.memory_keeper.proofs.keys.KeyIndex.add_rows.Given as goal
 
 abbrev pub invariant-loop-number : goal.invariant-loop-number

@@ -1,6 +1,27 @@
-use Rattle.std.proofs.Common.{subst}
-use Rattle.memory_keeper.specs.Keys.{Indexes}
+use Rattle.std.proofs.Common.{◌≡◌, ◌++◌, List, sym, ap, subst, ◌∙◌, take, drop}
+use Rattle.memory_keeper.specs.declared.tables.Row.{Row}
+use Rattle.memory_keeper.specs.Tables.{shown_rows, chosen_count}
+use Rattle.memory_keeper.proofs.NarrowLemmas.{shown_narrowed, count_narrowed}
 use Rattle.memory_keeper.proofs.tables.TableRows.candidates.Goals as goal
 
-pub narrowed-requires-clause-finds : goal.narrowed-requires-clause-finds
-narrowed-requires-clause-finds c = rw c.as_slice.ensures.value ((subst (λ index. Indexes index c.self.inside.items.items) c.in-Some.is c.self.invariant).1)
+pub returns-clause-shown : goal.returns-clause-shown
+returns-clause-shown c = λ picture.
+    let condition = c.args.condition.now in
+    let all = c.args.self.now in
+    let span = c.span_of.result in
+    let some = c.rows_at.result.now in
+    let is : c.as_slice.result.now ≡ all = cc in
+    let whole = subst (λ (rows : List Row). rows ≡ take span.from rows ++ some ++ drop span.to rows) is c.rows_at.ensures.between in
+    sym (ap (shown_rows picture condition) whole
+    ∙ shown_narrowed condition (take span.from all) some (drop span.to all) c.span_of.ensures.before c.span_of.ensures.behind picture)
+
+pub returns-clause-count : goal.returns-clause-count
+returns-clause-count c =
+    let condition = c.args.condition.now in
+    let all = c.args.self.now in
+    let span = c.span_of.result in
+    let some = c.rows_at.result.now in
+    let is : c.as_slice.result.now ≡ all = cc in
+    let whole = subst (λ (rows : List Row). rows ≡ take span.from rows ++ some ++ drop span.to rows) is c.rows_at.ensures.between in
+    sym (ap (chosen_count condition) whole
+    ∙ count_narrowed condition (take span.from all) some (drop span.to all) c.span_of.ensures.before c.span_of.ensures.behind)

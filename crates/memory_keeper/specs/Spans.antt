@@ -1,0 +1,27 @@
+-- Places of rows among which a condition chooses, so that the others need no look.
+use Rattle.std.specs.Prelude.{◌≡◌, ◌≤◌, Bool, true, false, not, List, ◌++◌, length, take, drop, Option, Result, Ok, Err}
+use Rattle.std.specs.List.{list_all}
+use Rattle.memory_keeper.specs.declared.fail.Refusal.{Refusal}
+use Rattle.memory_keeper.specs.declared.formulas.Equation.{Equation}
+use Rattle.memory_keeper.specs.declared.spans.Span.{Span}
+use Rattle.memory_keeper.specs.declared.tables.Row.{Row}
+use Rattle.memory_keeper.specs.Tables.{is_chosen}
+
+abbrev pub is_ok_false : Result Bool Refusal → Bool
+is_ok_false (Ok chosen) = not chosen
+is_ok_false (Err refusal) = false
+
+-- the row isn't chosen, and nothing is refused on it
+abbrev pub is_passed : Option Equation → Row → Bool
+is_passed condition row = is_ok_false (is_chosen condition row)
+
+-- the places are those of rows, and no row at another place is chosen
+pub record Spans (condition : Option Equation) (span : Span) (rows : List Row) : Type 0 where
+  pub ordered : span.from ≤ span.to
+  pub within : span.to ≤ length rows
+  pub before : list_all (is_passed condition) (take span.from rows) ≡ true
+  pub behind : list_all (is_passed condition) (drop span.to rows) ≡ true
+
+-- the rows with others in the place of those at some places
+abbrev pub replaced : List Row → Span → List Row → List Row
+replaced rows span news = take span.from rows ++ news ++ drop span.to rows
