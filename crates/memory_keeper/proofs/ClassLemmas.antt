@@ -10,8 +10,8 @@ use Rattle.keeper_dialect.specs.Query.{query_of}
 use Rattle.keeper_dialect.specs.Reads.{is_select}
 use Rattle.keeper_dialect.proofs.ReadLemmas.{read_is_a_select}
 use Rattle.engine_core.specs.declared.statement.BoundStmt.{BoundStmt}
-use Rattle.memory_keeper.specs.declared.fail.Refusal.{Refusal}
-use Rattle.memory_keeper.specs.declared.fail.Refusal.TheVariants.{Syntax}
+use Rattle.keeper_formulas.specs.declared.fail.Refusal.{Refusal}
+use Rattle.keeper_formulas.specs.declared.fail.Refusal.TheVariants.{Syntax}
 use Rattle.memory_keeper.specs.declared.tables.Table.{Table}
 use Rattle.memory_keeper.specs.Exec.{run_query, fits_class, run_parsed, outcome}
 

@@ -2,12 +2,12 @@
 use Rattle.std.proofs.Common.{◌≡◌, ℕ, ◌<◌, List, [], ◌∷◌, length, get_or, set, Some, Result, Ok, Err, refl, sym, ap, subst, ◌∙◌, suc, zero, arith}
 use Rattle.std.specs.Prelude.{slice_get}
 use Rattle.std.proofs.lemmas.Option.{slice_get_read}
-use Rattle.memory_keeper.specs.declared.fail.Refusal.{Refusal}
+use Rattle.keeper_formulas.specs.declared.fail.Refusal.{Refusal}
 use Rattle.hrana_stmt.specs.declared.results.StmtResult.{StmtResult}
-use Rattle.memory_keeper.specs.declared.fail.Fail.{Fail}
-use Rattle.memory_keeper.specs.declared.fail.Fail.TheVariants.{Refused, NoMemory}
+use Rattle.keeper_formulas.specs.declared.fail.Fail.{Fail}
+use Rattle.keeper_formulas.specs.declared.fail.Fail.TheVariants.{Refused, NoMemory}
 use Rattle.memory_keeper.specs.declared.tables.Table.{Table}
-use Rattle.memory_keeper.specs.Each.{and_then, map_ok, Gives, Changes}
+use Rattle.keeper_formulas.specs.Each.{and_then, map_ok, Gives, Changes}
 use Rattle.memory_keeper.specs.Exec.{table_of, on_table}
 
 -- a table that is put back as it was

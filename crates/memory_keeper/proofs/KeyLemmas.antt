@@ -20,7 +20,7 @@ use Rattle.memory_keeper.specs.declared.keys.KeyIndex.{KeyIndex}
 use Rattle.memory_keeper.specs.declared.spans.Span.{Span}
 use Rattle.memory_keeper.specs.Spans.{replaced}
 use Rattle.memory_keeper.specs.Keys.{place_of_key, HasKeysOf, FindsOnly, IsOnly, Indexes, keys_of}
-use Rattle.memory_keeper.specs.Values.{value_at, is_null, is_equal}
+use Rattle.keeper_formulas.specs.Values.{value_at, is_null, is_equal}
 use Rattle.memory_keeper.specs.declared.tables.Row.{Row}
 use Rattle.memory_keeper.specs.Constraint.{has_key, breaks_key, keeps_key}
 

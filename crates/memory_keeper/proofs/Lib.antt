@@ -1,5 +1,3 @@
-pub mod EachLemmas
-pub mod FormulaLemmas
 pub mod RowLemmas
 pub mod KeyLemmas
 pub mod NarrowLemmas

@@ -4,23 +4,25 @@ use Rattle.std.proofs.lemmas.List.Sums.{sum_by-cons}
 use Rattle.std.specs.Prelude.{count_by, filter, pos}
 use Rattle.std.specs.List.{list_any, list_all}
 use Rattle.hrana_value.specs.declared.value.Value.TheVariants.{Integer}
-use Rattle.memory_keeper.specs.declared.fail.Refusal.{Refusal}
-use Rattle.memory_keeper.specs.declared.formulas.Equation.{Equation}
-use Rattle.memory_keeper.specs.declared.formulas.Picture.{Picture}
-use Rattle.memory_keeper.specs.declared.formulas.Picture.TheVariants as picture
+use Rattle.keeper_formulas.specs.declared.fail.Refusal.{Refusal}
+use Rattle.keeper_formulas.specs.declared.formulas.Equation.{Equation}
+use Rattle.keeper_formulas.specs.declared.formulas.Picture.{Picture}
+use Rattle.keeper_formulas.specs.declared.formulas.Picture.TheVariants as picture
 use Rattle.memory_keeper.specs.declared.tables.Row.{Row}
-use Rattle.memory_keeper.specs.Each.{and_then, map_ok, each, somes, Refuses}
+use Rattle.keeper_formulas.specs.Each.{and_then, map_ok, each, somes, Refuses}
 use Rattle.hrana_value.specs.declared.value.Value.{Value}
-use Rattle.memory_keeper.specs.declared.fail.Fail.{Fail}
-use Rattle.memory_keeper.specs.declared.fail.Fail.TheVariants.{Refused, NoMemory}
-use Rattle.memory_keeper.specs.declared.fail.Refusal.TheVariants.{Constraint}
+use Rattle.keeper_formulas.specs.declared.fail.Fail.{Fail}
+use Rattle.keeper_formulas.specs.declared.fail.Fail.TheVariants.{Refused, NoMemory}
+use Rattle.keeper_formulas.specs.declared.fail.Refusal.TheVariants.{Constraint}
 use Rattle.memory_keeper.specs.Constraint.{keeps_key}
-use Rattle.memory_keeper.specs.Formulas.{assigned}
+use Rattle.keeper_formulas.specs.Formulas.{assigned, names_no_column, formula_value}
+use Rattle.keeper_formulas.specs.Values.{value_at, is_equal}
+use Rattle.keeper_formulas.proofs.FormulaLemmas.{constant_formula}
 use Rattle.memory_keeper.specs.declared.spans.Span.{Span}
 use Rattle.memory_keeper.specs.Keys.{Encloses}
 use Rattle.memory_keeper.specs.Spans.{is_ok_false, is_passed, Spans}
 use Rattle.memory_keeper.specs.Tables.{is_chosen, on_chosen, shown_values, row_shown, chosen_rows, chosen_count, shown_rows, renewal, renewed_row, renewed, all_renewed, all_updated, is_ok_true, stays}
-use Rattle.memory_keeper.proofs.EachLemmas.{joined, each-append, map_ok-Ok, refuses_then}
+use Rattle.keeper_formulas.proofs.EachLemmas.{joined, each-append, map_ok-Ok, refuses_then}
 use Rattle.memory_keeper.proofs.RowLemmas.{length-each}
 
 both : (a b : Bool) → (a && b) ≡ true → (a ≡ true) × (b ≡ true)
@@ -215,3 +217,9 @@ spans_by_test condition test span rows chosen encloses = record {
   before = passes_unmet condition test chosen (take span.from rows) encloses.before;
   behind = passes_unmet condition test chosen (drop span.to rows) encloses.behind;
 }
+
+-- a condition by an expression with one value on all rows
+pub chosen_by_value : (equation : Equation) (place : ℕ) (value : Value) → equation.place ≡ place → names_no_column equation.formula ≡ true → formula_value [] equation.formula ≡ Ok value → (row : Row) → is_chosen (Some equation) row ≡ Ok (is_equal (value_at row.values place) value)
+chosen_by_value equation place value at constant is row =
+    ap (map_ok (is_equal (value_at row.values equation.place))) (constant_formula row.values [] equation.formula constant ∙ is)
+    ∙ ap (λ p. Ok (is_equal (value_at row.values p) value)) at

@@ -3,16 +3,16 @@ use Rattle.std.proofs.Common.{◌≡◌, ℕ, ◌+◌, ◌<◌, Bool, cond, List
 use Rattle.std.specs.Prelude.{count_by}
 use Rattle.std.proofs.lemmas.List.{take_more}
 use Rattle.std.proofs.lemmas.List.Sums.{sum_by_push}
-use Rattle.memory_keeper.specs.declared.fail.Refusal.{Refusal}
+use Rattle.keeper_formulas.specs.declared.fail.Refusal.{Refusal}
 use Rattle.hrana_value.specs.declared.value.Value.{Value}
-use Rattle.memory_keeper.specs.declared.fail.Fail.{Fail}
-use Rattle.memory_keeper.specs.declared.fail.Fail.TheVariants.{Refused, NoMemory}
-use Rattle.memory_keeper.specs.declared.formulas.Equation.{Equation}
-use Rattle.memory_keeper.specs.declared.formulas.Picture.{Picture}
+use Rattle.keeper_formulas.specs.declared.fail.Fail.{Fail}
+use Rattle.keeper_formulas.specs.declared.fail.Fail.TheVariants.{Refused, NoMemory}
+use Rattle.keeper_formulas.specs.declared.formulas.Equation.{Equation}
+use Rattle.keeper_formulas.specs.declared.formulas.Picture.{Picture}
 use Rattle.memory_keeper.specs.declared.tables.Row.{Row}
-use Rattle.memory_keeper.specs.Each.{and_then, map_ok, each, somes, Refuses}
+use Rattle.keeper_formulas.specs.Each.{and_then, map_ok, each, somes, Refuses}
 use Rattle.memory_keeper.specs.Tables.{is_chosen, chosen_count, row_shown, chosen_rows, renewal, renewed_row, renewed, all_renewed}
-use Rattle.memory_keeper.proofs.EachLemmas.{each_more, each_refused, map_ok-Ok}
+use Rattle.keeper_formulas.proofs.EachLemmas.{each_more, each_refused, map_ok-Ok}
 
 -- one more step, where the results are counted or gathered
 pub mapped_more : {A B C : Type 0} (g : List B → C) (f : A → Result B Refusal) (xs : List A) (i : ℕ) (x : A) (z : C) (y : B) (z' : C) → map_ok g (each f (take i xs)) ≡ Ok z → i < length xs → x ≡ get_or xs i x → f x ≡ Ok y → ((ys : List B) → each f (take i xs) ≡ Ok ys → g ys ≡ z → g (ys ++ y ∷ []) ≡ z') → map_ok g (each f (take (i + 1) xs)) ≡ Ok z'

@@ -4,14 +4,14 @@ use Rattle.std.specs.List.{range_with_len, zip}
 use Rattle.std.proofs.lemmas.List.{take_more, drop_more, get_or_default}
 use Rattle.std.proofs.lemmas.Slice.Zip.{get_or-zip, length-zip}
 use Rattle.std.proofs.lemmas.Bool.{eq-eqb}
-use Rattle.memory_keeper.specs.declared.fail.Refusal.{Refusal}
+use Rattle.keeper_formulas.specs.declared.fail.Refusal.{Refusal}
 use Rattle.hrana_value.specs.declared.value.Value.{Value}
 use Rattle.keeper_dialect.specs.declared.query.Expr.{Expr}
-use Rattle.memory_keeper.specs.declared.fail.Fail.{Fail}
-use Rattle.memory_keeper.specs.declared.fail.Fail.TheVariants.{Refused, NoMemory}
-use Rattle.memory_keeper.specs.declared.formulas.Equation.{Equation}
+use Rattle.keeper_formulas.specs.declared.fail.Fail.{Fail}
+use Rattle.keeper_formulas.specs.declared.fail.Fail.TheVariants.{Refused, NoMemory}
+use Rattle.keeper_formulas.specs.declared.formulas.Equation.{Equation}
 use Rattle.memory_keeper.specs.declared.tables.Table.{Table}
-use Rattle.memory_keeper.specs.Each.{and_then, each, Refuses}
+use Rattle.keeper_formulas.specs.Each.{and_then, each, Refuses}
 use Rattle.memory_keeper.specs.Tables.{tuple_equation, tuple_of, tuple_added, tuples_added}
 
 -- ---- places

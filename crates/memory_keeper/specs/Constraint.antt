@@ -3,7 +3,7 @@ use Rattle.std.specs.Prelude.{ℕ, Bool, true, false, not, ◌&&◌, ◌||◌, L
 use Rattle.std.specs.List.{list_any}
 use Rattle.hrana_value.specs.declared.value.Value.{Value}
 use Rattle.memory_keeper.specs.declared.tables.Row.{Row}
-use Rattle.memory_keeper.specs.Values.{value_at, is_null, is_equal}
+use Rattle.keeper_formulas.specs.Values.{value_at, is_null, is_equal}
 
 -- a row has this key
 abbrev pub has_key : ℕ → List Row → Value → Bool

@@ -4,8 +4,8 @@ use Rattle.std.specs.List.{position}
 use Rattle.std.specs.Option.{option_and_then}
 use Rattle.std.specs.Str.{str_eq_ignore_ascii_case}
 use Rattle.hrana_value.specs.declared.value.Value.{Value}
-use Rattle.memory_keeper.specs.declared.fail.Refusal.{Refusal}
-use Rattle.memory_keeper.specs.declared.fail.Refusal.TheVariants.{Syntax, NoTable, TableExists}
+use Rattle.keeper_formulas.specs.declared.fail.Refusal.{Refusal}
+use Rattle.keeper_formulas.specs.declared.fail.Refusal.TheVariants.{Syntax, NoTable, TableExists}
 use Rattle.hrana_stmt.specs.declared.results.StmtResult.{StmtResult}
 use Rattle.keeper_dialect.specs.declared.query.ColDef.{ColDef}
 use Rattle.keeper_dialect.specs.declared.query.ColExpr.{ColExpr}
@@ -22,11 +22,11 @@ use Rattle.engine_core.specs.declared.engine.Answer.TheVariants.{Gave, Refused}
 use Rattle.engine_core.specs.declared.engine.EngineFail.{EngineFail}
 use Rattle.engine_core.specs.declared.engine.EngineFail.TheVariants as fail
 use Rattle.engine_core.specs.declared.statement.BoundStmt.{BoundStmt}
-use Rattle.memory_keeper.specs.Refusals.{code_of}
+use Rattle.keeper_formulas.specs.Refusals.{code_of}
 use Rattle.memory_keeper.specs.declared.keeper.Running.{Running}
 use Rattle.memory_keeper.specs.declared.tables.Row.{Row}
 use Rattle.memory_keeper.specs.declared.tables.Table.{Table}
-use Rattle.memory_keeper.specs.Each.{and_then, map_ok}
+use Rattle.keeper_formulas.specs.Each.{and_then, map_ok}
 use Rattle.memory_keeper.specs.Tables as table
 
 -- the place of the table of a name; names compare without regard to ASCII case

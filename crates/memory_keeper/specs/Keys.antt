@@ -9,7 +9,7 @@ use Rattle.hrana_value.specs.declared.value.Value.TheVariants.{Null, Integer, Te
 use Rattle.memory_keeper.specs.declared.keys.KeyIndex.{KeyIndex}
 use Rattle.memory_keeper.specs.declared.tables.Row.{Row}
 use Rattle.memory_keeper.specs.declared.spans.Span.{Span}
-use Rattle.memory_keeper.specs.Values.{value_at, is_equal}
+use Rattle.keeper_formulas.specs.Values.{value_at, is_equal}
 use Rattle.memory_keeper.specs.Constraint.{keeps_key}
 
 abbrev pub place_of_bytes : {A : Type 0} → BTreeMap (Vec ℕ A) ℕ → List ℕ → Option ℕ

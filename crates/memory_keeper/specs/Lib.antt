@@ -1,7 +1,3 @@
-pub mod Refusals
-pub mod Values
-pub mod Each
-pub mod Formulas
 pub mod Constraint
 pub mod Tables
 pub mod Keys

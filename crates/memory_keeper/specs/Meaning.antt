@@ -12,10 +12,10 @@ use Rattle.keeper_dialect.specs.Reads.{is_select}
 use Rattle.engine_core.specs.Engine.{is_read, is_write, is_refusal}
 use Rattle.engine_core.specs.declared.engine.Answer.{Answer}
 use Rattle.engine_core.specs.declared.statement.BoundStmt.{BoundStmt}
-use Rattle.memory_keeper.specs.declared.fail.Refusal.{Refusal}
-use Rattle.memory_keeper.specs.declared.fail.Refusal.TheVariants.{Syntax}
+use Rattle.keeper_formulas.specs.declared.fail.Refusal.{Refusal}
+use Rattle.keeper_formulas.specs.declared.fail.Refusal.TheVariants.{Syntax}
 use Rattle.memory_keeper.specs.declared.tables.Table.{Table}
-use Rattle.memory_keeper.specs.Each.{map_ok}
+use Rattle.keeper_formulas.specs.Each.{map_ok}
 use Rattle.memory_keeper.specs.Exec.{selected_from, run_query, run_parsed, outcome, ended, exec}
 
 ended_refused : (db : List Table) (r : Result (List Table × StmtResult) Refusal) → is_refusal (ended db r).1 ≡ true → (ended db r).0 ≡ db

@@ -1,8 +1,8 @@
 -- Places of rows among which a condition chooses, so that the others need no look.
 use Rattle.std.specs.Prelude.{◌≡◌, ◌≤◌, Bool, true, false, not, List, ◌++◌, length, take, drop, Option, Result, Ok, Err}
 use Rattle.std.specs.List.{list_all}
-use Rattle.memory_keeper.specs.declared.fail.Refusal.{Refusal}
-use Rattle.memory_keeper.specs.declared.formulas.Equation.{Equation}
+use Rattle.keeper_formulas.specs.declared.fail.Refusal.{Refusal}
+use Rattle.keeper_formulas.specs.declared.formulas.Equation.{Equation}
 use Rattle.memory_keeper.specs.declared.spans.Span.{Span}
 use Rattle.memory_keeper.specs.declared.tables.Row.{Row}
 use Rattle.memory_keeper.specs.Tables.{is_chosen}

@@ -3,8 +3,8 @@ use Rattle.std.specs.Prelude.{ℕ, ℤ, pos, zero, suc, ◌+◌, ◌-◌, ◌^�
 use Rattle.std.specs.List.{position, range_with_len, zip}
 use Rattle.hrana_value.specs.declared.value.Value.{Value}
 use Rattle.hrana_value.specs.declared.value.Value.TheVariants.{Null, Integer}
-use Rattle.memory_keeper.specs.declared.fail.Refusal.{Refusal}
-use Rattle.memory_keeper.specs.declared.fail.Refusal.TheVariants.{NoColumn, Constraint, Overflow, ResultTooLarge}
+use Rattle.keeper_formulas.specs.declared.fail.Refusal.{Refusal}
+use Rattle.keeper_formulas.specs.declared.fail.Refusal.TheVariants.{NoColumn, Constraint, Overflow, ResultTooLarge}
 use Rattle.hrana_stmt.specs.declared.results.Col.{Col}
 use Rattle.hrana_stmt.specs.declared.results.StmtResult.{StmtResult}
 use Rattle.engine_core.specs.Results.{rows_size}
@@ -13,14 +13,14 @@ use Rattle.keeper_dialect.specs.declared.query.ColDef.{ColDef}
 use Rattle.keeper_dialect.specs.declared.query.ColExpr.{ColExpr}
 use Rattle.keeper_dialect.specs.declared.query.Shown.{Shown}
 use Rattle.keeper_dialect.specs.declared.query.Shown.TheVariants as shown
-use Rattle.memory_keeper.specs.declared.formulas.Equation.{Equation}
-use Rattle.memory_keeper.specs.declared.formulas.Picture.{Picture}
-use Rattle.memory_keeper.specs.declared.formulas.Picture.TheVariants as picture
+use Rattle.keeper_formulas.specs.declared.formulas.Equation.{Equation}
+use Rattle.keeper_formulas.specs.declared.formulas.Picture.{Picture}
+use Rattle.keeper_formulas.specs.declared.formulas.Picture.TheVariants as picture
 use Rattle.memory_keeper.specs.declared.tables.Row.{Row}
 use Rattle.memory_keeper.specs.declared.tables.Table.{Table}
-use Rattle.memory_keeper.specs.Each.{and_then, map_ok, each, somes}
+use Rattle.keeper_formulas.specs.Each.{and_then, map_ok, each, somes}
 use Rattle.memory_keeper.specs.Constraint.{breaks_key, keeps_key}
-use Rattle.memory_keeper.specs.Formulas.{place_of, known, formula_of, equation_of, formula_value, is_met, assigned}
+use Rattle.keeper_formulas.specs.Formulas.{place_of, known, formula_of, equation_of, condition_of, formula_value, is_met, assigned}
 
 -- ---- results
 
@@ -42,10 +42,6 @@ abbrev pub fitting : List (List ℕ) → List (List Value) → Result StmtResult
 fitting names rows = if fits rows then Ok (selected names rows) else Err ResultTooLarge
 
 -- ---- which rows
-
-abbrev pub condition_of : List (List ℕ) → List Value → Option ColExpr → Result (Option Equation) Refusal
-condition_of columns bound None = Ok None
-condition_of columns bound (Some wanted) = map_ok Some (equation_of columns bound wanted)
 
 -- a row is chosen where there is no WHERE, or it is met
 abbrev pub is_chosen : Option Equation → Row → Result Bool Refusal

@@ -1,17 +1,15 @@
 // `DELETE`.
 ghost use Rattle.std.specs.Prelude.{◌≡◌, filter, IfOk, OnOk, OnErr};
 ghost use Rattle.engine_core.specs.Results.{IsSmall};
-ghost use Rattle.memory_keeper.specs.Each.{Changes};
+ghost use Rattle.keeper_formulas.specs.Each.{Changes};
 ghost use Rattle.memory_keeper.specs.Tables.{stays, chosen_count, delete};
 
-use crate::fail::{Fail, Refusal};
-use crate::formulas::Equation;
-use crate::resolve::condition_of;
 use crate::rows::{chosen_count, done};
 use crate::tables::{Table, TableRows};
 use hrana_stmt::StmtResult;
 use hrana_value::Value;
 use keeper_dialect::ColExpr;
+use keeper_formulas::{Equation, Fail, Refusal, condition_of};
 use std::alloc::Global;
 
 /// Removes the rows that a condition chooses, and says how many.

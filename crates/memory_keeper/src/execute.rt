@@ -4,15 +4,15 @@ ghost use Rattle.engine_core.specs.Engine.{is_read};
 ghost use Rattle.engine_core.specs.Results.{IsSmall};
 ghost use Rattle.keeper_dialect.specs.Query.{query_of};
 ghost use Rattle.keeper_dialect.specs.Reads.{is_select};
-ghost use Rattle.memory_keeper.specs.Each.{Gives, Changes};
+ghost use Rattle.keeper_formulas.specs.Each.{Gives, Changes};
 ghost use Rattle.memory_keeper.specs.Exec.{query_or_syntax, run_parsed, outcome, exec, RunsAs};
 
-use crate::fail::{Fail, Refusal, code_of};
 use crate::queries::run_query;
 use crate::tables::Table;
 use engine_core::{BoundStmt, Class, EngineFail};
 use hrana_stmt::StmtResult;
 use keeper_dialect::{DialectFail, Query, parse};
+use keeper_formulas::{Fail, Refusal, code_of};
 use std::alloc::Global;
 
 fn reads(class: Class) -> bool

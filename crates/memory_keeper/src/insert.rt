@@ -2,19 +2,17 @@
 ghost use Rattle.std.specs.Prelude.{◌≡◌, ◌≤◌, Some, pos, ◌+◌, ◌-◌, ◌<◌, ◌^◌, ◌++◌, ◌∷◌, [], Ok, length, replicate, IfOk, IfErr, OnOk, OnErr};
 ghost use Rattle.hrana_value.specs.declared.value.Value.TheVariants as sql_value;
 ghost use Rattle.engine_core.specs.Results.{IsSmall};
-ghost use Rattle.memory_keeper.specs.Each.{Gives, Refuses, Changes, each};
+ghost use Rattle.keeper_formulas.specs.Each.{Gives, Refuses, Changes, each};
 ghost use Rattle.std.specs.List.{range_with_len};
-ghost use Rattle.memory_keeper.specs.Formulas.{place_of, known};
+ghost use Rattle.keeper_formulas.specs.Formulas.{place_of, known};
 ghost use Rattle.memory_keeper.specs.Tables.{places_of, tuple_equation, tuple_of, with_rows, tuple_added, tuples_added, last_rowid, insert};
 
-use crate::fail::{Fail, Refusal};
-use crate::formulas::{Equation, Equations};
-use crate::resolve::{formula_of, place_of};
 use crate::rows::{assigned, breaks_key, done};
 use crate::tables::{Row, Table, TableRows};
 use hrana_stmt::StmtResult;
 use hrana_value::{NoMemory, Txt, Value};
 use keeper_dialect::{Expr, Exprs, NameList};
+use keeper_formulas::{Equation, Equations, Fail, Refusal, formula_of, place_of};
 use std::alloc::Global;
 
 /// The last rowid that is given.

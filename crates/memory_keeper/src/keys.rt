@@ -8,13 +8,12 @@ ghost use Rattle.hrana_value.specs.declared.value.Value.{Value as SqlValue};
 ghost use Rattle.memory_keeper.specs.Keys.{place_of_bytes, place_of_key, HasKeysOf, FindsOnly, Encloses};
 ghost use Rattle.memory_keeper.specs.declared.tables.Row.{Row};
 ghost use Rattle.memory_keeper.specs.Constraint.{keeps_key};
-ghost use Rattle.memory_keeper.specs.Values.{value_at, value_or_null, is_null, is_equal};
+ghost use Rattle.keeper_formulas.specs.Values.{value_at, value_or_null, is_null, is_equal};
 
-use crate::formulas::{are_equal, value_at};
 use crate::spans::{Span, one_place};
 use crate::tables::Row;
-use crate::values::is_null;
 use hrana_value::{NoMemory, Value};
+use keeper_formulas::{are_equal, is_null, value_at};
 use std::alloc::Global;
 use std::collections::BTreeMap;
 

@@ -4,14 +4,11 @@
 mod create;
 mod delete;
 mod execute;
-mod fail;
-mod formulas;
 mod insert;
 mod keeper;
 mod keys;
 mod laws;
 mod queries;
-mod resolve;
 mod rows;
 mod select;
 mod spans;
@@ -19,10 +16,7 @@ mod tables;
 #[cfg(test)]
 mod tests;
 mod update;
-mod values;
 
-pub use fail::Refusal;
-pub use formulas::{Addend, Addends, Equation, Equations, Formula, Formulas, Operand, Picture};
 pub use keeper::MemoryKeeper;
 pub use laws::class_refuses_nothing;
 pub use spans::Span;

@@ -1,15 +1,13 @@
 // Queries on the tables of a database.
 ghost use Rattle.std.specs.Prelude.{◌≡◌, ◌<◌, ◌∷◌, ◌++◌, [], Some, Ok, Err, IfOk, IfErr, length, slice_get};
 ghost use Rattle.engine_core.specs.Results.{IsSmall};
-ghost use Rattle.memory_keeper.specs.Each.{Gives, Refuses, Changes};
+ghost use Rattle.keeper_formulas.specs.Each.{Gives, Refuses, Changes};
 ghost use Rattle.memory_keeper.specs.Tables.{insert, update, delete};
 ghost use Rattle.memory_keeper.specs.Exec.{no_columns, table_place, table_of, on_table, created, selected_from, run_query};
 
 use crate::create::new_table;
 use crate::delete::delete;
-use crate::fail::{Fail, Refusal};
 use crate::insert::insert;
-use crate::resolve::is_same_name;
 use crate::rows::done;
 use crate::select::select;
 use crate::tables::{Row, Table, TableRows};
@@ -17,6 +15,7 @@ use crate::update::update;
 use hrana_stmt::StmtResult;
 use hrana_value::{Txt, Value, Values};
 use keeper_dialect::{ColDef, ColExpr, ColExprs, NameList, Query, Shown, Tuples};
+use keeper_formulas::{Fail, Refusal, is_same_name};
 use std::alloc::Global;
 
 fn place_of_table(tables: &[Table], name: &str) -> Option<usize>

@@ -3,18 +3,19 @@ ghost use Rattle.std.specs.Prelude.{◌≡◌, ◌≤◌, [], ◌++◌, length, 
 ghost use Rattle.std.specs.Option.{option_copied};
 ghost use Rattle.engine_core.specs.Results.{IsSmall};
 ghost use Rattle.memory_keeper.specs.declared.tables.Row.{Row};
-ghost use Rattle.memory_keeper.specs.Each.{Gives};
-ghost use Rattle.memory_keeper.specs.Formulas.{assigned};
-ghost use Rattle.memory_keeper.specs.Values.{value_at, value_or_null, is_equal};
+ghost use Rattle.keeper_formulas.specs.Each.{Gives};
+ghost use Rattle.keeper_formulas.specs.Formulas.{assigned};
+ghost use Rattle.keeper_formulas.specs.Values.{value_at, value_or_null, is_equal};
 ghost use Rattle.memory_keeper.specs.Constraint.{has_key, is_taken, breaks_key};
 ghost use Rattle.memory_keeper.specs.Tables.{is_chosen, stays, chosen_count, done};
 
-use crate::fail::{Fail, Refusal};
-use crate::formulas::{Equation, Operand, constant_sum, formula_value, is_met, names_no_column};
 use crate::tables::{Row, TableRows};
-use crate::values::{is_equal, is_null};
 use hrana_stmt::{Cols, Rows, StmtResult};
 use hrana_value::{Value, Values};
+use keeper_formulas::{
+    Equation, Fail, Operand, Refusal, constant_sum, formula_value, is_equal, is_met, is_null,
+    names_no_column,
+};
 use std::alloc::Global;
 
 /// Whether a row is chosen.

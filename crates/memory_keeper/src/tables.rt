@@ -1,7 +1,7 @@
 // Tables and their rows.
 ghost use Rattle.std.specs.Prelude.{◌≡◌, ◌+◌, ◌<◌, ◌≤◌, ◌^◌, true, false, length, List, [], ◌∷◌, ◌++◌, slice_set, IsTrue, OnOk, OnErr, IfOk, IfSome, is_some, filter};
 ghost use Rattle.engine_core.specs.Results.{IsSmall};
-ghost use Rattle.memory_keeper.specs.declared.formulas.Picture.{Picture};
+ghost use Rattle.keeper_formulas.specs.declared.formulas.Picture.{Picture};
 ghost use Rattle.memory_keeper.specs.declared.tables.Row.{Row};
 ghost use Rattle.memory_keeper.specs.Keys.{Indexes, HasKeysOf, FindsOnly};
 ghost use Rattle.memory_keeper.specs.Constraint.{has_key, keeps_key};
@@ -10,7 +10,6 @@ ghost use Rattle.memory_keeper.specs.Tables.{stays, shown_rows, chosen_count};
 ghost use Rattle.memory_keeper.specs.Exec.{exec, RunsAs};
 
 use crate::execute::execute;
-use crate::formulas::Equation;
 use crate::keys::{KeyIndex, has_key_at, span_with_key};
 use crate::rows::{constant_of, has_key, stays, sum_of_constants};
 use crate::spans::{Span, rows_at};
@@ -18,6 +17,7 @@ use engine_core::{BoundStmt, EngineFail};
 use hrana_stmt::StmtResult;
 use hrana_value::{NoMemory, Txt, Value, Values};
 use keeper_dialect::NameList;
+use keeper_formulas::Equation;
 use std::alloc::Global;
 use std::marker::Model;
 

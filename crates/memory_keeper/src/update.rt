@@ -1,18 +1,16 @@
 // `UPDATE`: all new rows are made from the old ones before the first is put in.
 ghost use Rattle.std.specs.Prelude.{◌≡◌, ◌≤◌, ◌∷◌, [], length, Ok, IfOk, IfErr};
 ghost use Rattle.engine_core.specs.Results.{IsSmall};
-ghost use Rattle.memory_keeper.specs.Each.{somes, Gives, Refuses, Changes};
+ghost use Rattle.keeper_formulas.specs.Each.{somes, Gives, Refuses, Changes};
 ghost use Rattle.memory_keeper.specs.Tables.{renewal, renewed_row, all_renewed, all_updated, update};
 
-use crate::fail::{Fail, Refusal};
-use crate::formulas::Equation;
-use crate::resolve::{condition_of, equations_of};
 use crate::rows::{assigned, done, is_chosen};
 use crate::spans::rows_at;
 use crate::tables::{Row, Table, TableRows};
 use hrana_stmt::StmtResult;
 use hrana_value::{NoMemory, Value, Values};
 use keeper_dialect::ColExpr;
+use keeper_formulas::{Equation, Fail, Refusal, condition_of, equations_of};
 use std::alloc::Global;
 
 /// New rows, and how many of them are changed.

@@ -1,6 +1,6 @@
 use Rattle.std.proofs.Common.{◌≡◌, ◌+◌, length, ap, ◌∙◌, length-append, arith}
 use Rattle.memory_keeper.specs.Tables.{tuples_added}
-use Rattle.memory_keeper.proofs.EachLemmas.{err_refused}
+use Rattle.keeper_formulas.proofs.EachLemmas.{err_refused}
 use Rattle.memory_keeper.proofs.TableLemmas.{tuples_added_more, refuses_tuples}
 use Rattle.memory_keeper.proofs.insert.new_rows.Goals as goal
 

@@ -1,7 +1,7 @@
 use Rattle.std.proofs.Common.{ℕ, List, sym, ap, ◌∙◌, arith}
-use Rattle.memory_keeper.specs.Formulas.{known, place_of}
-use Rattle.memory_keeper.specs.Each.{each}
-use Rattle.memory_keeper.proofs.EachLemmas.{each_more, each_refused, err_refusal}
+use Rattle.keeper_formulas.specs.Formulas.{known, place_of}
+use Rattle.keeper_formulas.specs.Each.{each}
+use Rattle.keeper_formulas.proofs.EachLemmas.{each_more, each_refused, err_refusal}
 use Rattle.memory_keeper.proofs.insert.places_of_names.Goals as goal
 
 pub returns-in_err-place-clause-err : goal.returns-in_err-place-clause-err

@@ -1,6 +1,6 @@
 use Rattle.std.proofs.Common.{◌≡◌, Ok, take}
-use Rattle.memory_keeper.specs.Each.{each}
-use Rattle.memory_keeper.specs.Formulas.{known, place_of}
+use Rattle.keeper_formulas.specs.Each.{each}
+use Rattle.keeper_formulas.specs.Formulas.{known, place_of}
 use Rattle.memory_keeper.proofs.insert.places_of_names.Given as goal
 
 abbrev pub invariant-loop-name : goal.invariant-loop-name

@@ -1,8 +1,8 @@
 use Rattle.std.proofs.Common.{◌≡◌, length, ◌∙◌, arith}
 use Rattle.std.specs.List.{zip}
-use Rattle.memory_keeper.specs.Each.{each}
+use Rattle.keeper_formulas.specs.Each.{each}
 use Rattle.memory_keeper.specs.Tables.{tuple_equation}
-use Rattle.memory_keeper.proofs.EachLemmas.{each_more, each_all, refuses_each, gives_refused}
+use Rattle.keeper_formulas.proofs.EachLemmas.{each_more, each_all, refuses_each, gives_refused}
 use Rattle.memory_keeper.proofs.TableLemmas.{tuple_of_even, pair_at, length_of_zip}
 use Rattle.memory_keeper.proofs.insert.tuple_of.Goals as goal
 

@@ -1,6 +1,6 @@
 use Rattle.std.proofs.Common.{◌≡◌, Ok, take}
 use Rattle.std.specs.List.{zip}
-use Rattle.memory_keeper.specs.Each.{each}
+use Rattle.keeper_formulas.specs.Each.{each}
 use Rattle.memory_keeper.specs.Tables.{tuple_equation}
 use Rattle.memory_keeper.proofs.insert.tuple_of.Given as goal
 

@@ -1,7 +1,7 @@
 use Rattle.std.proofs.Common.{arith}
 use Rattle.memory_keeper.specs.Tables.{tuple_of}
-use Rattle.memory_keeper.specs.Each.{each}
-use Rattle.memory_keeper.proofs.EachLemmas.{each_more, refuses_each, err_refused}
+use Rattle.keeper_formulas.specs.Each.{each}
+use Rattle.keeper_formulas.proofs.EachLemmas.{each_more, refuses_each, err_refused}
 use Rattle.memory_keeper.proofs.insert.tuples_of.Goals as goal
 
 pub returns-in_err-equations-clause-err : goal.returns-in_err-equations-clause-err

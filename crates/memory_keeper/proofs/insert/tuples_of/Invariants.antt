@@ -1,5 +1,5 @@
 use Rattle.std.proofs.Common.{◌≡◌, Ok, take}
-use Rattle.memory_keeper.specs.Each.{each}
+use Rattle.keeper_formulas.specs.Each.{each}
 use Rattle.memory_keeper.specs.Tables.{tuple_of}
 use Rattle.memory_keeper.proofs.insert.tuples_of.Given as goal
 

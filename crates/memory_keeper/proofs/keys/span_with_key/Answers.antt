@@ -1,7 +1,7 @@
 use Rattle.std.proofs.Common.{sym, ◌∙◌, ap, take, drop, arith}
 use Rattle.std.specs.List.{list_any}
 use Rattle.memory_keeper.specs.declared.tables.Row.{Row}
-use Rattle.memory_keeper.specs.Values.{value_at, is_equal}
+use Rattle.keeper_formulas.specs.Values.{value_at, is_equal}
 use Rattle.memory_keeper.proofs.keys.span_with_key.Goals as goal
 
 pub one_place-requires : goal.one_place-requires

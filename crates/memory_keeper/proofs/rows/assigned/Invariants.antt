@@ -1,5 +1,5 @@
 use Rattle.std.proofs.Common.{◌≡◌, drop}
-use Rattle.memory_keeper.specs.Formulas.{assigned}
+use Rattle.keeper_formulas.specs.Formulas.{assigned}
 use Rattle.memory_keeper.proofs.rows.assigned.Given as goal
 
 abbrev pub invariant-loop-set : goal.invariant-loop-set

@@ -1,6 +1,6 @@
 use Rattle.std.proofs.Common.{◌∙◌, sym, ap, add-zero, Ok, true, false, arith}
 use Rattle.memory_keeper.specs.Tables.{chosen_count}
-use Rattle.memory_keeper.proofs.EachLemmas.{result_refused}
+use Rattle.keeper_formulas.proofs.EachLemmas.{result_refused}
 use Rattle.memory_keeper.proofs.RowLemmas.{chosen_count_more, chosen_count_refused}
 use Rattle.memory_keeper.proofs.rows.chosen_count.Goals as goal
 use Rattle.memory_keeper.proofs.rows.chosen_count.Goals.{then-branch, else-branch}

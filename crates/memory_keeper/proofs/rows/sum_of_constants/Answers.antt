@@ -1,6 +1,6 @@
 use Rattle.std.proofs.Common.{◌≡◌, sym, ◌∙◌, ap, arith}
 use Rattle.memory_keeper.specs.Tables.{is_chosen}
-use Rattle.memory_keeper.proofs.FormulaLemmas.{chosen_by_value}
+use Rattle.memory_keeper.proofs.NarrowLemmas.{chosen_by_value}
 use Rattle.memory_keeper.proofs.rows.sum_of_constants.Goals as goal
 
 pub returns-in-Some-Ok : goal.returns-in-Some-Ok

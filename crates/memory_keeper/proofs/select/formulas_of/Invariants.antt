@@ -1,6 +1,6 @@
 use Rattle.std.proofs.Common.{◌≡◌, Ok, take}
-use Rattle.memory_keeper.specs.Each.{each}
-use Rattle.memory_keeper.specs.Formulas.{formula_of}
+use Rattle.keeper_formulas.specs.Each.{each}
+use Rattle.keeper_formulas.specs.Formulas.{formula_of}
 use Rattle.memory_keeper.proofs.select.formulas_of.Given as goal
 
 abbrev pub invariant-loop-item : goal.invariant-loop-item

@@ -1,7 +1,7 @@
 use Rattle.std.proofs.Common.{arith}
-use Rattle.memory_keeper.specs.Formulas.{formula_value}
-use Rattle.memory_keeper.specs.Each.{each}
-use Rattle.memory_keeper.proofs.EachLemmas.{each_more, refuses_each, gives_refused}
+use Rattle.keeper_formulas.specs.Formulas.{formula_value}
+use Rattle.keeper_formulas.specs.Each.{each}
+use Rattle.keeper_formulas.proofs.EachLemmas.{each_more, refuses_each, gives_refused}
 use Rattle.memory_keeper.proofs.select.list_values.Goals as goal
 
 pub returns-in_err-formula_value : goal.returns-in_err-formula_value

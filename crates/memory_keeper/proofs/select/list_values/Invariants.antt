@@ -1,6 +1,6 @@
 use Rattle.std.proofs.Common.{◌≡◌, Ok, take}
-use Rattle.memory_keeper.specs.Each.{each}
-use Rattle.memory_keeper.specs.Formulas.{formula_value}
+use Rattle.keeper_formulas.specs.Each.{each}
+use Rattle.keeper_formulas.specs.Formulas.{formula_value}
 use Rattle.memory_keeper.proofs.select.list_values.Given as goal
 
 abbrev pub invariant-loop-formula : goal.invariant-loop-formula

@@ -1,8 +1,8 @@
 use Rattle.std.proofs.Common.{ap}
-use Rattle.memory_keeper.specs.declared.formulas.Picture.TheVariants as picture
-use Rattle.memory_keeper.specs.Each.{map_ok}
+use Rattle.keeper_formulas.specs.declared.formulas.Picture.TheVariants as picture
+use Rattle.keeper_formulas.specs.Each.{map_ok}
 use Rattle.memory_keeper.specs.Tables.{picture_of}
-use Rattle.memory_keeper.proofs.EachLemmas.{gives_refused, refuses_map_ok}
+use Rattle.keeper_formulas.proofs.EachLemmas.{gives_refused, refuses_map_ok}
 use Rattle.memory_keeper.proofs.select.picture_of.Goals as goal
 
 pub returns-in_err-formulas_of-in-List : goal.returns-in_err-formulas_of-in-List

@@ -1,4 +1,4 @@
-use Rattle.memory_keeper.specs.Values.{value_at, is_equal}
+use Rattle.keeper_formulas.specs.Values.{value_at, is_equal}
 use Rattle.memory_keeper.proofs.NarrowLemmas.{spans_by_test}
 use Rattle.memory_keeper.proofs.tables.span_of.Goals as goal
 

@@ -1,7 +1,7 @@
 use Rattle.std.proofs.Common.{◌∷◌, [], ◌++◌, ◌+◌, Ok, length, length-append, sym, ap, ◌∙◌, arith}
-use Rattle.memory_keeper.specs.Each.{somes}
+use Rattle.keeper_formulas.specs.Each.{somes}
 use Rattle.memory_keeper.specs.Tables.{all_renewed}
-use Rattle.memory_keeper.proofs.EachLemmas.{err_refused}
+use Rattle.keeper_formulas.proofs.EachLemmas.{err_refused}
 use Rattle.memory_keeper.proofs.RowLemmas.{all_renewed_more, refuses_renewed}
 use Rattle.memory_keeper.proofs.update.all_renewed.Goals as goal
 

@@ -5,7 +5,7 @@ use Rattle.memory_keeper.proofs.KeyLemmas.{keeps_key_more, has_keys_more, finds_
 use Rattle.memory_keeper.specs.Keys.{place_of_key, FindsOnly}
 use Rattle.memory_keeper.specs.declared.tables.Row.{Row}
 use Rattle.memory_keeper.specs.Constraint.{keeps_key}
-use Rattle.memory_keeper.specs.Values.{value_at, value_or_null, is_null}
+use Rattle.keeper_formulas.specs.Values.{value_at, value_or_null, is_null}
 use Rattle.memory_keeper.proofs.keys.KeyIndex.add_rows.Goals as goal
 
 pub returns-then-not-branch-clause-kept : goal.returns-then-not-branch-clause-kept

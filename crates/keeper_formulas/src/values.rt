@@ -2,7 +2,7 @@
 ghost use Rattle.std.specs.Prelude.{◌≡◌, IfOk, unwrap_or};
 ghost use Rattle.std.specs.Option.{option_copied};
 ghost use Rattle.std.specs.Int.{w64};
-ghost use Rattle.memory_keeper.specs.Values.{value_at, value_or_null, sum_of, within_i64, is_equal, is_null};
+ghost use Rattle.keeper_formulas.specs.Values.{value_at, value_or_null, sum_of, within_i64, is_equal, is_null};
 ghost use Rattle.hrana_value.specs.declared.value.Value.TheVariants.{Integer};
 
 use crate::fail::Refusal;

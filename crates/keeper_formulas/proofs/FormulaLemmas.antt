@@ -1,19 +1,17 @@
 -- Lemmas on the values of expressions.
 use Rattle.std.proofs.Common.{◌≡◌, ℕ, ◌<◌, ◌≤◌, Bool, true, false, ◌&&◌, true≢false, List, [], ◌∷◌, length, get_or, drop, Some, Result, Ok, Err, refl, sym, ap, ◌∙◌, arith}
 use Rattle.std.proofs.lemmas.List.{drop_more}
-use Rattle.memory_keeper.specs.declared.fail.Refusal.{Refusal}
+use Rattle.keeper_formulas.specs.declared.fail.Refusal.{Refusal}
 use Rattle.hrana_value.specs.declared.value.Value.{Value}
-use Rattle.memory_keeper.specs.declared.formulas.Operand.{Operand}
-use Rattle.memory_keeper.specs.declared.formulas.Addend.{Addend}
+use Rattle.keeper_formulas.specs.declared.formulas.Operand.{Operand}
+use Rattle.keeper_formulas.specs.declared.formulas.Addend.{Addend}
 use Rattle.std.specs.List.{list_all}
-use Rattle.memory_keeper.specs.declared.formulas.Operand.TheVariants.{Constant, Column}
-use Rattle.memory_keeper.specs.declared.formulas.Formula.{Formula}
-use Rattle.memory_keeper.specs.declared.formulas.Equation.{Equation}
-use Rattle.memory_keeper.specs.declared.tables.Row.{Row}
-use Rattle.memory_keeper.specs.Each.{and_then, map_ok}
-use Rattle.memory_keeper.specs.Formulas.{is_constant, names_no_column, operand_value, sums, formula_value}
-use Rattle.memory_keeper.specs.Tables.{is_chosen}
-use Rattle.memory_keeper.specs.Values.{value_at, sum_of, is_equal}
+use Rattle.keeper_formulas.specs.declared.formulas.Operand.TheVariants.{Constant, Column}
+use Rattle.keeper_formulas.specs.declared.formulas.Formula.{Formula}
+use Rattle.keeper_formulas.specs.declared.formulas.Equation.{Equation}
+use Rattle.keeper_formulas.specs.Each.{and_then, map_ok}
+use Rattle.keeper_formulas.specs.Formulas.{is_constant, names_no_column, operand_value, sums, formula_value}
+use Rattle.keeper_formulas.specs.Values.{value_at, sum_of, is_equal}
 
 -- an expression of one operand
 pub first_only : (g : Value → Bool) (row : List Value) (first : Operand) (rest : List Addend) (b : Bool) → length rest < 1 → b ≡ g (operand_value row first) → ◌≡◌ {A = Result Bool Refusal} (Ok b) (map_ok g (sums row (operand_value row first) rest))
@@ -47,13 +45,8 @@ constant_sums row other sum (addend ∷ rest) p =
     ap (λ v. and_then (sum_of addend.minus sum v) (λ next. sums row next rest)) (constant_operand row other addend.operand q.0)
     ∙ and_then_same (sum_of addend.minus sum (operand_value other addend.operand)) (λ next. sums row next rest) (λ next. sums other next rest) (λ next. constant_sums row other next rest q.1)
 
-constant_formula : (row other : List Value) (formula : Formula) → names_no_column formula ≡ true → formula_value row formula ≡ formula_value other formula
+-- an expression that names no column has one value on all rows
+pub constant_formula : (row other : List Value) (formula : Formula) → names_no_column formula ≡ true → formula_value row formula ≡ formula_value other formula
 constant_formula row other formula p =
     let q = both (is_constant formula.first) (list_all (λ addend. is_constant addend.operand) formula.rest) p in
     ap (λ v. sums row v formula.rest) (constant_operand row other formula.first q.0) ∙ constant_sums row other (operand_value other formula.first) formula.rest q.1
-
--- a condition by an expression with one value on all rows
-pub chosen_by_value : (equation : Equation) (place : ℕ) (value : Value) → equation.place ≡ place → names_no_column equation.formula ≡ true → formula_value [] equation.formula ≡ Ok value → (row : Row) → is_chosen (Some equation) row ≡ Ok (is_equal (value_at row.values place) value)
-chosen_by_value equation place value at constant is row =
-    ap (map_ok (is_equal (value_at row.values equation.place))) (constant_formula row.values [] equation.formula constant ∙ is)
-    ∙ ap (λ p. Ok (is_equal (value_at row.values p) value)) at

@@ -1,8 +1,8 @@
 -- The code of each refusal.
 use Rattle.hrana_stmt.specs.declared.codes.Code.{Code}
 use Rattle.hrana_stmt.specs.declared.codes.Code.TheVariants as code
-use Rattle.memory_keeper.specs.declared.fail.Refusal.{Refusal}
-use Rattle.memory_keeper.specs.declared.fail.Refusal.TheVariants.{Syntax, NoTable, NoColumn, TableExists, Constraint, BadType, Overflow, ResultTooLarge}
+use Rattle.keeper_formulas.specs.declared.fail.Refusal.{Refusal}
+use Rattle.keeper_formulas.specs.declared.fail.Refusal.TheVariants.{Syntax, NoTable, NoColumn, TableExists, Constraint, BadType, Overflow, ResultTooLarge}
 
 abbrev pub code_of : Refusal → Code
 code_of Syntax = code.Syntax

@@ -1,6 +1,6 @@
 // Why a statement isn't run.
 ghost use Rattle.std.specs.Prelude.{◌≡◌};
-ghost use Rattle.memory_keeper.specs.Refusals.{code_of};
+ghost use Rattle.keeper_formulas.specs.Refusals.{code_of};
 
 use hrana_stmt::Code;
 use hrana_value::NoMemory;
@@ -46,7 +46,7 @@ pub enum Fail {
 }
 
 impl From<NoMemory> for Fail {
-    ghost use Rattle.memory_keeper.specs.declared.fail.Fail.TheVariants as fail;
+    ghost use Rattle.keeper_formulas.specs.declared.fail.Fail.TheVariants as fail;
 
     ghost from_gives = { λ _ e. e ≡ fail.NoMemory };
 
@@ -56,7 +56,7 @@ impl From<NoMemory> for Fail {
 }
 
 impl<T: Drop> From<AllocFailed<T>> for Fail {
-    ghost use Rattle.memory_keeper.specs.declared.fail.Fail.TheVariants as fail;
+    ghost use Rattle.keeper_formulas.specs.declared.fail.Fail.TheVariants as fail;
 
     ghost from_gives = { λ _ e. e ≡ fail.NoMemory };
 
@@ -66,7 +66,7 @@ impl<T: Drop> From<AllocFailed<T>> for Fail {
 }
 
 impl From<Refusal> for Fail {
-    ghost use Rattle.memory_keeper.specs.declared.fail.Fail.TheVariants as fail;
+    ghost use Rattle.keeper_formulas.specs.declared.fail.Fail.TheVariants as fail;
 
     ghost from_gives = { λ refusal e. e ≡ fail.Refused refusal };
 

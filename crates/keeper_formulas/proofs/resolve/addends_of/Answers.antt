@@ -1,8 +1,8 @@
 use Rattle.std.proofs.Common.{arith}
-use Rattle.memory_keeper.specs.Formulas.{addend_of}
-use Rattle.memory_keeper.specs.Each.{each}
-use Rattle.memory_keeper.proofs.EachLemmas.{each_more, refuses_each, gives_refused}
-use Rattle.memory_keeper.proofs.resolve.addends_of.Goals as goal
+use Rattle.keeper_formulas.specs.Formulas.{addend_of}
+use Rattle.keeper_formulas.specs.Each.{each}
+use Rattle.keeper_formulas.proofs.EachLemmas.{each_more, refuses_each, gives_refused}
+use Rattle.keeper_formulas.proofs.resolve.addends_of.Goals as goal
 
 pub returns-in_err-addend_of : goal.returns-in_err-addend_of
 returns-in_err-addend_of c =

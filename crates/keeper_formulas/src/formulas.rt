@@ -2,9 +2,9 @@
 ghost use Rattle.std.specs.Prelude.{◌≡◌, [], ◌∷◌, ◌++◌, OnOk, OnErr, IfOk, IfSome};
 ghost use Rattle.std.specs.List.{list_all};
 ghost use Rattle.std.specs.Option.{option_copied};
-ghost use Rattle.memory_keeper.specs.Each.{Gives, map_ok};
-ghost use Rattle.memory_keeper.specs.Values.{value_at, value_or_null, sum_of, is_equal};
-ghost use Rattle.memory_keeper.specs.Formulas.{is_constant, names_no_column, operand_value, sums, formula_value, is_met};
+ghost use Rattle.keeper_formulas.specs.Each.{Gives, map_ok};
+ghost use Rattle.keeper_formulas.specs.Values.{value_at, value_or_null, sum_of, is_equal};
+ghost use Rattle.keeper_formulas.specs.Formulas.{is_constant, names_no_column, operand_value, sums, formula_value, is_met};
 
 use crate::fail::{Fail, Refusal};
 use crate::values::{copy_or_null, is_equal, sum_of};
@@ -56,7 +56,7 @@ pub struct Addends {
 
 impl Model for Addends {
     ghost use Rattle.std.specs.Prelude.{List};
-    ghost use Rattle.memory_keeper.specs.declared.formulas.Addend.{Addend};
+    ghost use Rattle.keeper_formulas.specs.declared.formulas.Addend.{Addend};
 
     ghost Value = { List Addend };
 
@@ -98,7 +98,7 @@ pub struct Formulas {
 
 impl Model for Formulas {
     ghost use Rattle.std.specs.Prelude.{List};
-    ghost use Rattle.memory_keeper.specs.declared.formulas.Formula.{Formula};
+    ghost use Rattle.keeper_formulas.specs.declared.formulas.Formula.{Formula};
 
     ghost Value = { List Formula };
 
@@ -140,7 +140,7 @@ pub struct Equations {
 
 impl Model for Equations {
     ghost use Rattle.std.specs.Prelude.{List};
-    ghost use Rattle.memory_keeper.specs.declared.formulas.Equation.{Equation};
+    ghost use Rattle.keeper_formulas.specs.declared.formulas.Equation.{Equation};
 
     ghost Value = { List Equation };
 

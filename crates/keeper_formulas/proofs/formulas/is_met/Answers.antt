@@ -1,8 +1,8 @@
 use Rattle.std.proofs.Common.{ap, length, arith}
 use Rattle.std.proofs.lemmas.List.{take_rest}
-use Rattle.memory_keeper.specs.Values.{value_at, is_equal}
-use Rattle.memory_keeper.proofs.FormulaLemmas.{first_only, with_second}
-use Rattle.memory_keeper.proofs.formulas.is_met.Goals as goal
+use Rattle.keeper_formulas.specs.Values.{value_at, is_equal}
+use Rattle.keeper_formulas.proofs.FormulaLemmas.{first_only, with_second}
+use Rattle.keeper_formulas.proofs.formulas.is_met.Goals as goal
 
 pub returns-in-empty : goal.returns-in-empty
 returns-in-empty c =

@@ -4,20 +4,20 @@ use Rattle.std.specs.List.{position, list_all}
 use Rattle.std.specs.Str.{str_eq_ignore_ascii_case}
 use Rattle.hrana_value.specs.declared.value.Value.{Value}
 use Rattle.hrana_value.specs.declared.value.Value.TheVariants as value
-use Rattle.memory_keeper.specs.declared.fail.Refusal.{Refusal}
-use Rattle.memory_keeper.specs.declared.fail.Refusal.TheVariants.{NoColumn}
+use Rattle.keeper_formulas.specs.declared.fail.Refusal.{Refusal}
+use Rattle.keeper_formulas.specs.declared.fail.Refusal.TheVariants.{NoColumn}
 use Rattle.keeper_dialect.specs.declared.query.Term.{Term}
 use Rattle.keeper_dialect.specs.declared.query.Term.TheVariants.{Number, Text, Blob, Null, Param, Name}
 use Rattle.keeper_dialect.specs.declared.query.Add.{Add}
 use Rattle.keeper_dialect.specs.declared.query.Expr.{Expr}
 use Rattle.keeper_dialect.specs.declared.query.ColExpr.{ColExpr}
-use Rattle.memory_keeper.specs.declared.formulas.Operand.{Operand}
-use Rattle.memory_keeper.specs.declared.formulas.Operand.TheVariants.{Constant, Column}
-use Rattle.memory_keeper.specs.declared.formulas.Addend.{Addend}
-use Rattle.memory_keeper.specs.declared.formulas.Formula.{Formula}
-use Rattle.memory_keeper.specs.declared.formulas.Equation.{Equation}
-use Rattle.memory_keeper.specs.Each.{and_then, map_ok, each}
-use Rattle.memory_keeper.specs.Values.{value_at, sum_of, is_equal}
+use Rattle.keeper_formulas.specs.declared.formulas.Operand.{Operand}
+use Rattle.keeper_formulas.specs.declared.formulas.Operand.TheVariants.{Constant, Column}
+use Rattle.keeper_formulas.specs.declared.formulas.Addend.{Addend}
+use Rattle.keeper_formulas.specs.declared.formulas.Formula.{Formula}
+use Rattle.keeper_formulas.specs.declared.formulas.Equation.{Equation}
+use Rattle.keeper_formulas.specs.Each.{and_then, map_ok, each}
+use Rattle.keeper_formulas.specs.Values.{value_at, sum_of, is_equal}
 
 -- the place of a name among the columns; names compare without regard to ASCII case
 abbrev pub place_of : List (List ℕ) → List ℕ → Option ℕ
@@ -50,6 +50,11 @@ abbrev pub equation_of : List (List ℕ) → List Value → ColExpr → Result E
 equation_of columns bound set =
     and_then (known (place_of columns set.column))
     (λ place. map_ok (λ formula. record { place = place; formula = formula }) (formula_of columns bound set.expr))
+
+-- the same of what a WHERE says, if there is one
+abbrev pub condition_of : List (List ℕ) → List Value → Option ColExpr → Result (Option Equation) Refusal
+condition_of columns bound None = Ok None
+condition_of columns bound (Some wanted) = map_ok Some (equation_of columns bound wanted)
 
 -- the operand has one value on all rows
 abbrev pub is_constant : Operand → Bool

@@ -1,12 +1,12 @@
 -- Lemmas on steps that may be refused, one after another over a list.
 use Rattle.std.proofs.Common.{◌≡◌, ℕ, ◌+◌, ◌<◌, ◌≤◌, Bool, true, false, List, [], ◌∷◌, ◌++◌, length, get_or, take, drop, Option, Some, None, Result, Ok, Err, refl, sym, ap, subst, ◌∙◌, append_assoc}
 use Rattle.std.proofs.lemmas.List.{take_more, take_all, drop_more}
-use Rattle.memory_keeper.specs.declared.fail.Refusal.{Refusal}
+use Rattle.keeper_formulas.specs.declared.fail.Refusal.{Refusal}
 use Rattle.std.proofs.lemmas.Result.{err_from_is_err_and}
 use Rattle.std.specs.Result.{IsErrAnd, IfErr}
-use Rattle.memory_keeper.specs.declared.fail.Fail.{Fail}
-use Rattle.memory_keeper.specs.declared.fail.Fail.TheVariants.{Refused, NoMemory}
-use Rattle.memory_keeper.specs.Each.{and_then, map_ok, each, Refuses, Gives, Changes}
+use Rattle.keeper_formulas.specs.declared.fail.Fail.{Fail}
+use Rattle.keeper_formulas.specs.declared.fail.Fail.TheVariants.{Refused, NoMemory}
+use Rattle.keeper_formulas.specs.Each.{and_then, map_ok, each, Refuses, Gives, Changes}
 
 -- the results of two lists, one after the other
 abbrev pub joined : {B : Type 0} → Result (List B) Refusal → Result (List B) Refusal → Result (List B) Refusal

@@ -1,8 +1,8 @@
 -- What may be refused: one step after another, and one step for each of a list.
 use Rattle.std.specs.Prelude.{◌≡◌, List, [], ◌∷◌, Option, Some, None, Result, Ok, Err}
-use Rattle.memory_keeper.specs.declared.fail.Refusal.{Refusal}
-use Rattle.memory_keeper.specs.declared.fail.Fail.{Fail}
-use Rattle.memory_keeper.specs.declared.fail.Fail.TheVariants.{Refused, NoMemory}
+use Rattle.keeper_formulas.specs.declared.fail.Refusal.{Refusal}
+use Rattle.keeper_formulas.specs.declared.fail.Fail.{Fail}
+use Rattle.keeper_formulas.specs.declared.fail.Fail.TheVariants.{Refused, NoMemory}
 
 -- a step on what the first gave
 abbrev pub and_then : {A B : Type 0} → Result A Refusal → (A → Result B Refusal) → Result B Refusal

@@ -1,10 +1,9 @@
 // Names become places, parameters values.
 ghost use Rattle.std.specs.Prelude.{◌≡◌, ◌-◌, IfOk};
 ghost use Rattle.std.specs.Str.{str_eq_ignore_ascii_case};
-ghost use Rattle.memory_keeper.specs.Each.{Gives, each};
-ghost use Rattle.memory_keeper.specs.Values.{value_at};
-ghost use Rattle.memory_keeper.specs.Formulas.{place_of, known, operand_of, addend_of, formula_of, equation_of};
-ghost use Rattle.memory_keeper.specs.Tables.{condition_of};
+ghost use Rattle.keeper_formulas.specs.Each.{Gives, each};
+ghost use Rattle.keeper_formulas.specs.Values.{value_at};
+ghost use Rattle.keeper_formulas.specs.Formulas.{place_of, known, operand_of, addend_of, formula_of, equation_of, condition_of};
 
 use crate::fail::{Fail, Refusal};
 use crate::formulas::{Addend, Addends, Equation, Equations, Formula, Operand};

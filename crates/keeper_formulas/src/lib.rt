@@ -1,0 +1,15 @@
+//! Values of rows, and the expressions of the dialect on a table's columns: names become places, parameters values.
+#![tactic(auto)]
+
+mod fail;
+mod formulas;
+mod resolve;
+mod values;
+
+pub use fail::{Fail, Refusal, code_of};
+pub use formulas::{
+    Addend, Addends, Equation, Equations, Formula, Formulas, Operand, Picture, are_equal,
+    constant_sum, formula_value, is_met, names_no_column, value_at,
+};
+pub use resolve::{condition_of, equations_of, formula_of, is_same_name, place_of};
+pub use values::{copy_or_null, is_equal, is_null};
