@@ -5,3 +5,4 @@ pub mod Lists
 pub mod Query
 pub mod Grammar
 pub mod Reads
+pub mod Stops
