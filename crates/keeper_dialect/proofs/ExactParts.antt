@@ -13,7 +13,7 @@ use Rattle.keeper_dialect.specs.declared.query.Item.{Item}
 use Rattle.keeper_dialect.specs.Tokens.{Token}
 use Rattle.keeper_dialect.specs.Reading.{Reading, and_then, symbol_at, place_at, is_keyword, is_sign, keyword_at, sign_at}
 use Rattle.keeper_dialect.specs.Terms.{expr_at, name_at, col_expr_at}
-use Rattle.keeper_dialect.specs.Lists.{is_among, is_set, is_col, has_key, new_name_at, name_list_at, names_at, exprs_at, tuple_at, tuples_at, set_at, sets_at, source_text, front, item_at, items_at, is_plain_word, after_type, key_at, col_name_at, col_def_at, cols_at, col_defs_at, most_cols}
+use Rattle.keeper_dialect.specs.Lists.{is_among, is_set, is_col, has_key, new_name_at, name_list_at, names_at, exprs_at, tuple_at, tuples_at, setting_at, set_at, sets_at, source_text, front, item_at, items_at, is_plain_word, after_type, key_at, col_name_at, col_def_at, cols_at, col_defs_at, most_cols}
 use Rattle.keeper_dialect.specs.Grammar.{Is, here, Then, both, Either, first, second, Single, one, standing, Keyed, Signed, Name, IsExpr, Unless, unless, Separated, Bracketed, NewName, Equation, IsItem, item, Nothing, TypeName, KeyMark, IsColDef, Names, Tuple}
 use Rattle.keeper_dialect.proofs.ReadingLemmas.{then_ok, same_rest}
 use Rattle.keeper_dialect.proofs.Shorter.{expr_within, new_name_within, tuple_within, set_within, item_within, col_def_within}
@@ -68,7 +68,7 @@ unfolding equation_at col_expr_at
 exact_col_expr = exact_equation Name name_at exact_name
 
 exact_set : (done : List ColExpr) → Exact (Equation (NewName (is_set done))) closes (set_at done)
-unfolding equation_at set_at
+unfolding equation_at setting_at
 exact_set done = exact_equation (NewName (is_set done)) (new_name_at (is_set done)) (exact_new_name (is_set done))
 
 pub exact_sets : Exact (Separated (λ done. Equation (NewName (is_set done)))) closes_list sets_at

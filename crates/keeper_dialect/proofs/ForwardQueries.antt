@@ -14,7 +14,7 @@ use Rattle.keeper_dialect.specs.declared.query.Query.TheVariants as query
 use Rattle.keeper_dialect.specs.Tokens.{Token}
 use Rattle.keeper_dialect.specs.Reading.{Reading, and_then, is_keyword, is_sign, keyword_at, sign_at}
 use Rattle.keeper_dialect.specs.Terms.{name_at, expr_at, col_expr_at}
-use Rattle.keeper_dialect.specs.Lists.{is_among, is_set, new_name_at, name_list_at, names_at, exprs_at, tuple_at, tuples_at, set_at, sets_at, source_text, front, item_at, items_at, col_defs_at}
+use Rattle.keeper_dialect.specs.Lists.{is_among, is_set, new_name_at, name_list_at, names_at, exprs_at, tuple_at, tuples_at, setting_at, set_at, sets_at, source_text, front, item_at, items_at, col_defs_at}
 use Rattle.keeper_dialect.specs.Query.{filter_at, create_at, some_names_at, insert_at, from_at, count_at, list_at, select_at, update_at, delete_at, statement_by, statement_of, statement_at, is_end}
 use Rattle.keeper_dialect.specs.Grammar.{Is, Then, both, Either, one, standing, Keyed, Signed, Name, IsExpr, Separated, Bracketed, NewName, Equation, IsItem, item, Names, Tuple, Filter, Counted, counted, From, IsColDef, IsQuery, create, insert, select, update, delete}
 use Rattle.keeper_dialect.specs.Stops.{FullCols, CanBegin, by_query, by_columns}
@@ -51,7 +51,7 @@ unfolding equation_at col_expr_at
 going_col_expr = going_equation Name name_at going_name
 
 going_set : (done : List ColExpr) → Going (Equation (NewName (is_set done))) (set_at done)
-unfolding equation_at set_at
+unfolding equation_at setting_at
 going_set done = going_equation (NewName (is_set done)) (new_name_at (is_set done)) (going_new_name (is_set done) (fresh_name (λ (s : ColExpr). s.column) done))
 
 going_sets : Going (Separated (λ done. Equation (NewName (is_set done)))) sets_at

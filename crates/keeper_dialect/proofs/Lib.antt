@@ -16,3 +16,4 @@ pub mod ForwardCols
 pub mod ForwardQueries
 pub mod TokenEnds
 pub mod Stopping
+pub mod TakenLemmas

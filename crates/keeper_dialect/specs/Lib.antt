@@ -6,3 +6,4 @@ pub mod Query
 pub mod Grammar
 pub mod Reads
 pub mod Stops
+pub mod Taken

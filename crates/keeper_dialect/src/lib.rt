@@ -25,6 +25,7 @@ mod parser;
 mod query;
 mod reader;
 mod statements;
+mod taken;
 mod terms;
 #[cfg(test)]
 mod tests;
