@@ -1,5 +1,6 @@
 -- Where a text that is refused stops.
 use Rattle.std.proofs.Common.{◌≡◌, ◌+◌, ℕ, Bool, true, false, cond, List, [], ◌∷◌, ◌++◌, length, Some, None, Ok, Err, refl, sym, ap, ◌∙◌, subst, append_assoc, append-nil, arith}
+use Rattle.std.proofs.lemmas.List.{length-append}
 use Rattle.std.specs.Prelude.{nat_lt}
 use Rattle.keeper_dialect.specs.declared.tokens.Keyword.TheVariants as keyword
 use Rattle.keeper_dialect.specs.declared.tokens.Symbol.TheVariants as symbol
@@ -11,15 +12,15 @@ use Rattle.keeper_dialect.specs.Reading.{Reading, and_then, repeated, behind_com
 use Rattle.keeper_dialect.specs.Terms.{name_at}
 use Rattle.keeper_dialect.specs.Lists.{most_cols, col_def_at, cols_at, col_defs_at}
 use Rattle.keeper_dialect.specs.Query.{create_at, statement_at, is_end, whole_at, answer_of, query_of}
-use Rattle.keeper_dialect.specs.Grammar.{here, Then, both, Repeated, none, more, one, Keyed, Signed, Name, unless, IsColDef, IsQuery, create}
-use Rattle.keeper_dialect.specs.Stops.{FullCols, FullTable, CanBegin, by_query, by_columns, StopsAt, NoTextStopsAtTwoPlaces}
-use Rattle.keeper_dialect.proofs.ReadingLemmas.{then_ok, then_err, repeated-goes, repeated-fails}
+use Rattle.keeper_dialect.specs.Grammar.{here, Then, both, Repeated, none, more, one, Keyed, Signed, Name, unless, IsColDef, IsQuery, IsQueryOf, create}
+use Rattle.keeper_dialect.specs.Stops.{FullCols, FullTable, CanBegin, by_query, by_columns, StopsAt, NoQueryStops, NoTextStopsAtTwoPlaces}
+use Rattle.keeper_dialect.proofs.ReadingLemmas.{same_rest, then_ok, then_err, repeated-goes, repeated-fails}
 use Rattle.keeper_dialect.proofs.Shorter.{col_def_within}
 use Rattle.keeper_dialect.proofs.Exact.{Exact, ExactNext, any}
 use Rattle.keeper_dialect.proofs.ExactTerms.{exact_keyword, exact_sign, exact_name}
 use Rattle.keeper_dialect.proofs.ExactLists.{Behind, Parts, closes, closes_list, exact_behind, sign_is, found_some}
 use Rattle.keeper_dialect.proofs.ExactParts.{exact_col_def}
-use Rattle.keeper_dialect.proofs.ExactQueries.{same_keyword, statement_at-is, statement_complete}
+use Rattle.keeper_dialect.proofs.ExactQueries.{query_of-complete, same_keyword, statement_at-is, statement_complete}
 use Rattle.keeper_dialect.proofs.Forward.{Outcome, went, stopped}
 use Rattle.keeper_dialect.proofs.ForwardTerms.{some_token}
 use Rattle.keeper_dialect.proofs.ForwardCols.{cols_go_on, col_def_at-full}
@@ -130,21 +131,25 @@ of_whole (Err n) at is = let same : n ≡ at = cc is in ap (λ m. refused m) sam
     refused : ℕ → Reading Query
     refused m = Err m
 
+-- a text that is refused is no query
+no_query : (sql : List ℕ) (at : ℕ) (q : Query) → query_of sql ≡ Err at → ¬ IsQueryOf q sql
+no_query sql at q stops is = let wrong : Err at ≡ Ok q = sym stops ∙ query_of-complete sql q is in cc wrong
+
 -- a text that is refused stops at the place
 pub query_of-stops : (sql : List ℕ) (at : ℕ) → query_of sql ≡ Err at → StopsAt sql at
 unfolding query_of
 query_of-stops sql at is =
     let r = refused_by (tokens_of sql) at (of_whole (whole_at (tokens_of sql)) at is) (statement_outcome (tokens_of sql) (tokens_ended sql)) in
-    record { before = r.before; token = r.token; rest = r.rest; whole = r.whole; place = r.place; begins = r.begins; stops = no_more r.before r.token r.stops; ends = λ end. sym r.place ∙ end_place sql r.before r.token r.rest r.whole end }
+    record { before = r.before; token = r.token; rest = r.rest; whole = r.whole; place = r.place; begins = r.begins; stops = no_more r.before r.token r.stops; ends = λ end. sym r.place ∙ end_place sql r.before r.token r.rest r.whole end; short = λ end q query. no_query sql at q is (record { tokens = r.before; rest = r.token ∷ r.rest; query = query; whole = r.whole; ends = end }) }
 
 -- two tokens of a text: one is the other, or one is before the other
 data Placed (us : List Token) (t : Token) (vs : List Token) (u : Token) : Type 0 where
-  same : t ≡ u → Placed us t vs u
+  same : us ≡ vs → t ≡ u → Placed us t vs u
   earlier : (ws : List Token) → vs ≡ (us ++ t ∷ []) ++ ws → Placed us t vs u
   later : (ws : List Token) → us ≡ (vs ++ u ∷ []) ++ ws → Placed us t vs u
 
 placed : (us : List Token) (t : Token) (r vs : List Token) (u : Token) (s : List Token) → us ++ t ∷ r ≡ vs ++ u ∷ s → Placed us t vs u
-placed [] t r [] u s is = same (cc is)
+placed [] t r [] u s is = same refl (cc is)
 placed [] t r (v ∷ vs) u s is = let head : v ≡ t = cc is in earlier vs (ap (λ w. w ∷ vs) head)
 placed (w ∷ us) t r [] u s is = let head : w ≡ u = cc is in later us (ap (λ v. v ∷ us) head)
 placed (w ∷ us) t r (v ∷ vs) u s is =
@@ -153,7 +158,7 @@ placed (w ∷ us) t r (v ∷ vs) u s is =
     by_tail head (placed us t r vs u s tail)
   where
     by_tail : w ≡ v → Placed us t vs u → Placed (w ∷ us) t (v ∷ vs) u
-    by_tail head (same is) = same is
+    by_tail head (same whole is) = same (λ i. head i ∷ whole i) is
     by_tail head (earlier ws is) = earlier ws (λ i. sym head i ∷ is i)
     by_tail head (later ws is) = later ws (λ i. head i ∷ is i)
 
@@ -203,6 +208,62 @@ pub one_place : NoTextStopsAtTwoPlaces
 one_place sql at other a b = by_places (placed a.before a.token a.rest b.before b.token b.rest (sym a.whole ∙ b.whole))
   where
     by_places : Placed a.before a.token b.before b.token → at ≡ other
-    by_places (same is) = sym a.place ∙ ap (λ (t : Token). t.start) is ∙ b.place
+    by_places (same whole is) = sym a.place ∙ ap (λ (t : Token). t.start) is ∙ b.place
     by_places (earlier ws is) = absurd (a.stops (begins_front (a.before ++ a.token ∷ []) ws (subst CanBegin is b.begins)))
     by_places (later ws is) = absurd (b.stops (begins_front (b.before ++ b.token ∷ []) ws (subst CanBegin is a.begins)))
+
+-- a query that is read up to the end, whatever follows that one
+record Whole (ts : List Token) : Type 0 where
+  query : Query
+  front : List Token
+  token : Token
+  rest : List Token
+  is : IsQuery query front
+  whole : ts ≡ front ++ token ∷ rest
+  reads : (other : List Token) → whole_at (front ++ token ∷ other) ≡ Ok (query, token ∷ other)
+  ends : is_end token.symbol ≡ true
+
+whole_by : (ts : List Token) (q : Query) (left : List Token) → whole_at ts ≡ Ok (q, left) → Outcome IsQuery CanBegin statement_at ts → Whole ts
+unfolding whole_at judged
+whole_by ts q left is (stopped s) = let wrong : Err s.token.start ≡ Ok (q, left) = sym (ap whole_at s.whole ∙ then_err (statement_at (s.front ++ s.token ∷ s.rest)) _ s.token.start (s.stops s.rest)) ∙ is in cc wrong
+whole_by ts q left is (went w) = by_end (is_end w.token.symbol) refl
+  where
+    read : (other : List Token) → whole_at (w.front ++ w.token ∷ other) ≡ judged (is_end w.token.symbol) w.value (w.token ∷ other)
+    read other = then_ok (statement_at (w.front ++ w.token ∷ other)) _ w.value (w.token ∷ other) (w.goes other)
+
+    by_end : (b : Bool) → is_end w.token.symbol ≡ b → Whole ts
+    by_end true end = record { query = w.value; front = w.front; token = w.token; rest = w.rest; is = w.is; whole = w.whole; reads = λ other. read other ∙ ap (λ b. judged b w.value (w.token ∷ other)) end; ends = end }
+    by_end false end = let wrong : Err w.token.start ≡ Ok (q, left) = sym (ap whole_at w.whole ∙ read w.rest ∙ ap (λ b. judged b w.value (w.token ∷ w.rest)) end) ∙ is in cc wrong
+
+-- behind a query that is whole the end can't stand for another token
+none_behind : (ts : List Token) (w : Whole ts) → ¬ CanBegin (w.front ++ w.token ∷ [])
+none_behind ts w (by_query q left is) =
+    let end : Token = some_token symbol.End [] in
+    let read : whole_at (((w.front ++ w.token ∷ []) ++ left) ++ end ∷ []) ≡ Ok (q, end ∷ []) = whole_complete q ((w.front ++ w.token ∷ []) ++ left) (end ∷ []) is refl in
+    let same : ((w.front ++ w.token ∷ []) ++ left) ++ end ∷ [] ≡ w.front ++ w.token ∷ (left ++ end ∷ []) = append_assoc (w.front ++ w.token ∷ []) left (end ∷ []) ∙ append_assoc w.front (w.token ∷ []) (left ++ end ∷ []) in
+    let left_is : end ∷ [] ≡ w.token ∷ (left ++ end ∷ []) = same_rest q w.query (end ∷ []) (w.token ∷ (left ++ end ∷ [])) (whole_at (((w.front ++ w.token ∷ []) ++ left) ++ end ∷ [])) read (ap whole_at same ∙ w.reads (left ++ end ∷ [])) in
+    absurd (omega (arith, ap length left_is, length-append left (end ∷ [])))
+none_behind ts w (by_columns f) =
+    let s : Token = some_token symbol.End [] in
+    let same : (w.front ++ w.token ∷ []) ++ s ∷ [] ≡ w.front ++ w.token ∷ s ∷ [] = append_assoc w.front (w.token ∷ []) (s ∷ []) in
+    let wrong : Ok (w.query, w.token ∷ s ∷ []) ≡ Err s.start = sym (w.reads (s ∷ [])) ∙ sym (ap whole_at same) ∙ whole_full (w.front ++ w.token ∷ []) s [] f in cc wrong
+
+answered : (r : Reading Query) (q : Query) → answer_of r ≡ Ok q → (left : List Token) × (r ≡ Ok (q, left))
+answered (Ok read) q is = let same : read.0 ≡ q = cc is in (read.1, ap (λ p. as_read p read.1) same)
+  where
+    as_read : Query → List Token → Reading Query
+    as_read p rest = Ok (p, rest)
+answered (Err at) q is = cc is
+
+-- no text that is a query stops
+pub no_query_stops : NoQueryStops
+unfolding query_of
+no_query_stops sql q at is a = by_places (placed a.before a.token a.rest w.front w.token w.rest (sym a.whole ∙ w.whole))
+  where
+    w : Whole (tokens_of sql)
+    w = let r = answered (whole_at (tokens_of sql)) q (query_of-complete sql q is) in whole_by (tokens_of sql) q r.0 r.1 (statement_outcome (tokens_of sql) (tokens_ended sql))
+
+    by_places : Placed a.before a.token w.front w.token → ⊥
+    by_places (same whole same_token) = a.short (ap (λ (t : Token). is_end t.symbol) same_token ∙ w.ends) w.query (subst (IsQuery w.query) (sym whole) w.is)
+    by_places (earlier ws whole) = a.stops (begins_front (a.before ++ a.token ∷ []) ws (by_query w.query [] (subst (IsQuery w.query) (whole ∙ sym (append-nil ((a.before ++ a.token ∷ []) ++ ws))) w.is)))
+    by_places (later ws whole) = none_behind (tokens_of sql) w (begins_front (w.front ++ w.token ∷ []) ws (subst CanBegin whole a.begins))

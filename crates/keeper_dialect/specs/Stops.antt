@@ -7,7 +7,7 @@ use Rattle.keeper_dialect.specs.declared.query.Query.{Query}
 use Rattle.keeper_dialect.specs.Tokens.{Token, tokens_of}
 use Rattle.keeper_dialect.specs.Lists.{most_cols}
 use Rattle.keeper_dialect.specs.Query.{is_end}
-use Rattle.keeper_dialect.specs.Grammar.{Then, Unless, Keyed, Signed, Name, Separated, IsColDef, IsQuery}
+use Rattle.keeper_dialect.specs.Grammar.{Then, Unless, Keyed, Signed, Name, Separated, IsColDef, IsQuery, IsQueryOf}
 
 -- coldef { , coldef } , with as many columns as a table may have
 abbrev pub FullCols : Unit {0} → List Token → Type 0
@@ -23,7 +23,7 @@ pub data CanBegin (us : List Token) : Type 0 where
   by_columns : FullTable tt us → CanBegin us
 
 -- A text stops at a place: there its first token starts that can't follow those before it, which a query may begin with.
--- Where more is needed, that token is the end of the text.
+-- That token may be the end of the text, where those before it are no query yet.
 pub record StopsAt (sql : List ℕ) (at : ℕ) : Type 0 where
   pub before : List Token
   pub token : Token
@@ -33,11 +33,16 @@ pub record StopsAt (sql : List ℕ) (at : ℕ) : Type 0 where
   pub begins : CanBegin before
   pub stops : ¬ CanBegin (before ++ token ∷ [])
   pub ends : is_end token.symbol ≡ true → at ≡ length sql
+  pub short : is_end token.symbol ≡ true → (q : Query) → ¬ IsQuery q before
 
 -- the place of a text that is refused is where it stops, unless memory ran out
 abbrev pub StopsRightly : List ℕ → DialectFail → Type 0
 StopsRightly sql (fail.Syntax at) = StopsAt sql at
 StopsRightly sql fail.NoMemory = Unit {0}
+
+-- no text that is a query stops
+abbrev pub NoQueryStops : Type 0
+NoQueryStops = (sql : List ℕ) (q : Query) (at : ℕ) → IsQueryOf q sql → ¬ StopsAt sql at
 
 -- no text stops at two places
 abbrev pub NoTextStopsAtTwoPlaces : Type 0

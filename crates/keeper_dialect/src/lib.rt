@@ -32,7 +32,8 @@ mod tests;
 mod tokens;
 
 pub use laws::{
-    each_read_is_a_select, no_text_is_two_queries, no_text_stops_at_two_places, queries_are_read,
+    each_read_is_a_select, no_query_stops, no_text_is_two_queries, no_text_stops_at_two_places,
+    queries_are_read,
 };
 pub use parser::parse;
 pub use query::{
