@@ -1,11 +1,25 @@
 -- Readings that are exactly the parts of the grammar.
 use Rattle.std.proofs.Common.{◌≡◌, ℕ, zero, suc, Bool, true, false, cond, List, [], ◌∷◌, ◌++◌, length, Option, Some, None, Ok, Err, refl, sym, ap, ◌∙◌, subst, append_assoc, append-nil}
 use Rattle.keeper_dialect.specs.declared.tokens.Symbol.{Symbol}
+use Rattle.keeper_dialect.specs.declared.tokens.Symbol.TheVariants as symbol
 use Rattle.keeper_dialect.specs.Tokens.{Token}
 use Rattle.keeper_dialect.specs.Reading.{Reading, and_then, repeated, symbol_at}
 use Rattle.keeper_dialect.specs.Terms.{one_at}
+use Rattle.keeper_dialect.specs.Query.{is_end}
 use Rattle.keeper_dialect.specs.Grammar.{Is, here, Then, both, Either, first, second, Repeated, none, more, Single, one, Unless, unless}
 use Rattle.keeper_dialect.proofs.ReadingLemmas.{GoesOn, then_ok, same_rest, repeated-goes, repeated-stops, repeated-one, repeated-fail, repeated-zero}
+
+-- the end, where it is tested
+pub end_is : (s : Symbol) → is_end s ≡ true → s ≡ symbol.End
+end_is (symbol.Keyword k) is = cc is
+end_is symbol.Word is = cc is
+end_is symbol.QuotedName is = cc is
+end_is symbol.Text is = cc is
+end_is symbol.Number is = cc is
+end_is (symbol.Parameter n) is = cc is
+end_is (symbol.Sign b) is = cc is
+end_is symbol.Stray is = cc is
+end_is symbol.End is = refl
 
 -- a value that stands at the front of tokens, before the others
 pub record Front {A : Type 0} (P : A → List Token → Type 0) (x : A) (ts rest : List Token) : Type 0 where

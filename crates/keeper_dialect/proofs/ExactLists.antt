@@ -75,10 +75,10 @@ operator_text symbol.Stray minus is = refl
 operator_text symbol.End minus is = refl
 
 -- the term behind an operator
-operand : Bool → List Token → Reading Add
+unfoldable pub operand : Bool → List Token → Reading Add
 operand minus ts = and_then (term_at ts) (λ t rest. Ok (record { minus = minus; term = t }, rest))
 
-abbrev Operand : Bool → Add → List Token → Type 0
+abbrev pub Operand : Bool → Add → List Token → Type 0
 Operand minus = Then IsTerm (λ t. Is (record { minus = minus; term = t }))
 
 exact_operand : (minus : Bool) → Exact (Operand minus) no_text (operand minus)
@@ -173,7 +173,7 @@ pub found_some : (b : Bool) (u : Unit {0}) → cond b (Some tt) None ≡ Some u 
 found_some true u is = refl
 found_some false u is = cc is
 
-exact_behind : {A : Type 0} (P : List A → A → List Token → Type 0) (read : List A → List Token → Reading A) → Parts P read → ExactNext (Behind P) closes closes_list (behind_comma read)
+pub exact_behind : {A : Type 0} (P : List A → A → List Token → Type 0) (read : List A → List Token → Reading A) → Parts P read → ExactNext (Behind P) closes closes_list (behind_comma read)
 exact_behind {A = A} P read parts = record { sound = sound; complete = complete; stops = λ done ts is. ap (λ b. cond b (Some (read done (drop 1 ts))) None) (closes_comma (symbol_at ts) is); ends = λ ts is. closes_more (symbol_at ts) is; goes = goes }
   where
     by_comma : (b : Bool) (done : List A) (t : Token) (ts : List Token) (x : A) (rest : List Token) → is_sign 44 t.symbol ≡ b → cond b (Some (read done ts)) None ≡ Some (Ok (x, rest)) → Front (Behind P done) x (t ∷ ts) rest

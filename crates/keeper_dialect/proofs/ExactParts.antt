@@ -13,7 +13,7 @@ use Rattle.keeper_dialect.specs.declared.query.Item.{Item}
 use Rattle.keeper_dialect.specs.Tokens.{Token}
 use Rattle.keeper_dialect.specs.Reading.{Reading, and_then, symbol_at, place_at, is_keyword, is_sign, keyword_at, sign_at}
 use Rattle.keeper_dialect.specs.Terms.{expr_at, name_at, col_expr_at}
-use Rattle.keeper_dialect.specs.Lists.{is_among, is_set, is_col, has_key, new_name_at, name_list_at, names_at, exprs_at, tuple_at, tuples_at, set_at, sets_at, source_text, front, item_at, items_at, is_plain_word, after_type, key_at, col_name_at, col_def_at, cols_at, col_defs_at, most_cols}
+use Rattle.keeper_dialect.specs.Lists.{is_among, is_set, is_col, has_key, new_name_at, name_list_at, names_at, exprs_at, tuple_at, tuples_at, setting_at, set_at, sets_at, source_text, front, item_at, items_at, is_plain_word, after_type, key_at, col_name_at, col_def_at, cols_at, col_defs_at, most_cols}
 use Rattle.keeper_dialect.specs.Grammar.{Is, here, Then, both, Either, first, second, Single, one, standing, Keyed, Signed, Name, IsExpr, Unless, unless, Separated, Bracketed, NewName, Equation, IsItem, item, Nothing, TypeName, KeyMark, IsColDef, Names, Tuple}
 use Rattle.keeper_dialect.proofs.ReadingLemmas.{then_ok, same_rest}
 use Rattle.keeper_dialect.proofs.Shorter.{expr_within, new_name_within, tuple_within, set_within, item_within, col_def_within}
@@ -52,7 +52,7 @@ pub exact_tuples : Exact (Separated (λ done. Tuple)) closes_list tuples_at
 unfolding tuples_at
 exact_tuples = exact_separated (λ done. Tuple) (λ done. tuple_at) (record { each = λ done. exact_less _ any closes _ (λ s is. refl) exact_tuple; within = λ done ts. tuple_within ts (length ts) (omega arith) })
 
-equation_at : (List Token → Reading (List ℕ)) → List Token → Reading ColExpr
+unfoldable pub equation_at : (List Token → Reading (List ℕ)) → List Token → Reading ColExpr
 equation_at n ts = and_then (n ts) (λ name after. and_then (sign_at 61 after) (λ _ right. and_then (expr_at right) (λ e rest. Ok (record { column = name; expr = e }, rest))))
 
 exact_equation : (N : List ℕ → List Token → Type 0) (n : List Token → Reading (List ℕ)) → Exact N any n → Exact (Equation N) closes (equation_at n)
@@ -68,7 +68,7 @@ unfolding equation_at col_expr_at
 exact_col_expr = exact_equation Name name_at exact_name
 
 exact_set : (done : List ColExpr) → Exact (Equation (NewName (is_set done))) closes (set_at done)
-unfolding equation_at set_at
+unfolding equation_at setting_at
 exact_set done = exact_equation (NewName (is_set done)) (new_name_at (is_set done)) (exact_new_name (is_set done))
 
 pub exact_sets : Exact (Separated (λ done. Equation (NewName (is_set done)))) closes_list sets_at
@@ -187,7 +187,7 @@ not_true : (b : Bool) → not b ≡ true → b ≡ false
 not_true true wrong = cc wrong
 not_true false right = refl
 
-type_at : List Token → Reading (Unit {0})
+unfoldable pub type_at : List Token → Reading (Unit {0})
 type_at ts = cond (is_plain_word (symbol_at ts)) (Ok (tt, drop 1 ts)) (Ok (tt, ts))
 
 exact_type : Exact TypeName no_word type_at
@@ -200,7 +200,7 @@ exact_type = exact_perhaps is_plain_word Nothing Nothing no_word (λ ts. Ok (tt,
 key_word_at : List Token → Reading Bool
 key_word_at ts = and_then (keyword_at keyword.Key ts) (λ _ rest. Ok (true, rest))
 
-abbrev KeyWords : Bool → List Token → Type 0
+abbrev pub KeyWords : Bool → List Token → Type 0
 KeyWords = Either (Then (Keyed keyword.Primary) (λ _. Then (Keyed keyword.Key) (λ _. Is true))) (Is false)
 
 exact_key_words : Exact KeyWords closes (λ ts. cond (is_keyword keyword.Primary (symbol_at ts)) (key_word_at (drop 1 ts)) (Ok (false, ts)))
@@ -210,7 +210,7 @@ exact_key_words = exact_perhaps (is_keyword keyword.Primary) (Then (Keyed keywor
     differs : (x : Bool) (us rest : List Token) → Is false x us → closes (symbol_at rest) ≡ true → is_keyword keyword.Primary (symbol_at (us ++ rest)) ≡ false
     differs x us rest here follows = closes_primary (symbol_at rest) follows
 
-and_false : (b : Bool) → (b && false) ≡ false
+pub and_false : (b : Bool) → (b && false) ≡ false
 and_false true = refl
 and_false false = refl
 
@@ -236,7 +236,7 @@ exact_key true = record { sound = λ ts x rest is. sound (is_keyword keyword.Pri
     complete x us rest (unless y vs (second z ws here) fine) follows = ap (λ b. marked b rest) (closes_primary (symbol_at rest) follows)
     complete x us rest (unless y vs (first z ws (both u w os ps p (both v k qs rs q here))) wrong) follows = cc wrong
 
-abbrev ColName : List ColDef → List ℕ → List Token → Type 0
+abbrev pub ColName : List ColDef → List ℕ → List Token → Type 0
 ColName done = Unless (λ name. not (nat_lt (length done) most_cols)) (NewName (is_col done))
 
 exact_col_name : (done : List ColDef) → Exact (ColName done) any (col_name_at done)
@@ -254,13 +254,13 @@ exact_col_name done = record { sound = λ ts x rest is. sound (nat_lt (length do
     complete : (x : List ℕ) (us rest : List Token) → ColName done x us → true ≡ true → cond (nat_lt (length done) most_cols) (new_name_at (is_col done) (us ++ rest)) (Err (place_at (us ++ rest))) ≡ Ok (x, rest)
     complete x us rest (unless y vs p few) follows = ap (λ b. cond b (new_name_at (is_col done) (vs ++ rest)) (Err (place_at (vs ++ rest)))) (few_of (nat_lt (length done) most_cols) few) ∙ (exact_new_name (is_col done)).complete x vs rest p refl
 
-col_rest : List ColDef → List ℕ → List Token → Reading ColDef
+unfoldable pub col_rest : List ColDef → List ℕ → List Token → Reading ColDef
 col_rest done name after = and_then (key_at (has_key done) (after_type (symbol_at after) after)) (λ key rest. Ok (record { name = name; key = key }, rest))
 
-typed_rest : List ColDef → List ℕ → List Token → Reading ColDef
+unfoldable pub typed_rest : List ColDef → List ℕ → List Token → Reading ColDef
 typed_rest done name after = and_then (type_at after) (λ _ mid. and_then (key_at (has_key done) mid) (λ key rest. Ok (record { name = name; key = key }, rest)))
 
-same_typed : (done : List ColDef) (name : List ℕ) (ts : List Token) → col_rest done name ts ≡ typed_rest done name ts
+pub same_typed : (done : List ColDef) (name : List ℕ) (ts : List Token) → col_rest done name ts ≡ typed_rest done name ts
 unfolding col_rest typed_rest type_at and_then
 same_typed done name ts = by_word (is_plain_word (symbol_at ts))
   where
@@ -289,7 +289,7 @@ keyword_is k (symbol.Sign b) is = refl
 keyword_is k symbol.Stray is = refl
 keyword_is k symbol.End is = refl
 
-abbrev KeyedCol : List ColDef → List ℕ → ColDef → List Token → Type 0
+abbrev pub KeyedCol : List ColDef → List ℕ → ColDef → List Token → Type 0
 KeyedCol done name = Then (KeyMark (has_key done)) (λ key. Is (record { name = name; key = key }))
 
 key_follows : (done : List ColDef) (name : List ℕ) (y : ColDef) (vs rest : List Token) → KeyedCol done name y vs → closes (symbol_at rest) ≡ true → no_word (symbol_at (vs ++ rest)) ≡ true
@@ -304,7 +304,7 @@ exact_col_rest done name =
     (λ _. exact_then (KeyMark (has_key done)) (λ key. Is (record { name = name; key = key })) closes closes (key_at (has_key done)) (λ key rest. Ok (record { name = name; key = key }, rest)) (exact_key (has_key done)) (λ key. exact_is (record { name = name; key = key }) closes) (λ key y vs rest q follows. is_free (record { name = name; key = key }) y closes vs rest q follows))
     (λ u y vs rest q follows. key_follows done name y vs rest q follows)
 
-exact_col_def : (done : List ColDef) → Exact (IsColDef done) closes (col_def_at done)
+pub exact_col_def : (done : List ColDef) → Exact (IsColDef done) closes (col_def_at done)
 unfolding col_def_at col_rest
 exact_col_def done =
     exact_next (ColName done) (λ name. Then TypeName (λ _. KeyedCol done name)) closes (col_name_at done) (col_rest done) (exact_col_name done) (λ name. exact_same (Then TypeName (λ _. KeyedCol done name)) closes (typed_rest done name) (col_rest done name) (λ ts. same_typed done name ts) (exact_col_rest done name))

@@ -20,7 +20,7 @@ use Rattle.keeper_dialect.specs.Lists.{source_text, front, names_at, tuples_at, 
 use Rattle.keeper_dialect.specs.Query.{filter_at, create_at, some_names_at, insert_at, from_at, count_at, list_at, select_at, update_at, delete_at, statement_by, statement_of, statement_at, is_end, whole_at, answer_of, query_of}
 use Rattle.keeper_dialect.specs.Grammar.{Is, here, Then, both, Either, first, second, one, Keyed, Signed, Name, IsTerm, number, negative, text, blob, null, parameter, name, IsExpr, Separated, Bracketed, NewName, Equation, IsItem, item, Names, Tuple, Filter, Counted, counted, From, Create, Insert, Select, Update, Delete, IsQuery, create, insert, select, update, delete, IsQueryOf, IsColDef}
 use Rattle.keeper_dialect.proofs.ReadingLemmas.{then_ok, same_rest}
-use Rattle.keeper_dialect.proofs.Exact.{Front, Exact, any, split, same_value, exact_is, exact_then, exact_next, exact_either}
+use Rattle.keeper_dialect.proofs.Exact.{end_is, Front, Exact, any, split, same_value, exact_is, exact_then, exact_next, exact_either}
 use Rattle.keeper_dialect.proofs.ExactTerms.{exact_keyword, exact_sign, exact_name}
 use Rattle.keeper_dialect.proofs.ExactLists.{closes, closes_list, found_some}
 use Rattle.keeper_dialect.proofs.ExactParts.{is_free, front_is, exact_brackets, exact_names, exact_tuples, exact_sets, exact_items, exact_col_expr, exact_col_defs, Led, led_sound, led_complete, exact_perhaps}
@@ -35,17 +35,6 @@ end_closes (symbol.Parameter n) is = cc is
 end_closes (symbol.Sign b) is = cc is
 end_closes symbol.Stray is = cc is
 end_closes symbol.End is = refl
-
-end_is : (s : Symbol) → is_end s ≡ true → s ≡ symbol.End
-end_is (symbol.Keyword k) is = cc is
-end_is symbol.Word is = cc is
-end_is symbol.QuotedName is = cc is
-end_is symbol.Text is = cc is
-end_is symbol.Number is = cc is
-end_is (symbol.Parameter n) is = cc is
-end_is (symbol.Sign b) is = cc is
-end_is symbol.Stray is = cc is
-end_is symbol.End is = refl
 
 -- which keyword a tested token is
 data IsOne (k : Keyword) (s : Symbol) : Type 0 where
@@ -96,7 +85,7 @@ exact_from what =
     exact_next Name _ is_end name_at _ exact_name (λ table.
     exact_then Filter (λ filter. Is (query.Select what (Some table) filter)) is_end is_end filter_at (λ filter rest. Ok (query.Select what (Some table) filter, rest)) exact_filter (λ filter. exact_is (query.Select what (Some table) filter) is_end) (λ filter y vs rest q follows. filtered (query.Select what (Some table) filter) y vs rest q follows)))
 
-abbrev CreateRest : Query → List Token → Type 0
+abbrev pub CreateRest : Query → List Token → Type 0
 CreateRest = Then (Keyed keyword.Table) (λ _. Then Name (λ table. Then (Bracketed (Separated IsColDef)) (λ cols. Is (query.Create table cols))))
 
 exact_create : Exact CreateRest is_end create_at
@@ -140,7 +129,7 @@ exact_some_names = exact_either (Then Names (λ names. Is (Some names))) (Is Non
 abbrev InsertValues : List ℕ → Option (List (List ℕ)) → Query → List Token → Type 0
 InsertValues table names = Then (Keyed keyword.Values) (λ _. Then (Separated (λ done. Tuple)) (λ tuples. Is (query.Insert table names tuples)))
 
-abbrev InsertRest : Query → List Token → Type 0
+abbrev pub InsertRest : Query → List Token → Type 0
 InsertRest = Then (Keyed keyword.Into) (λ _. Then Name (λ table. Then (Either (Then Names (λ names. Is (Some names))) (Is None)) (λ names. InsertValues table names)))
 
 end_closes_list : (s : Symbol) → is_end s ≡ true → closes_list s ≡ true
@@ -192,7 +181,7 @@ filter_follows x us rest (first y vs (both u z os ps (one t v is) q)) follows = 
     where_closes symbol.Stray is = cc is
     where_closes symbol.End is = cc is
 
-abbrev UpdateRest : Query → List Token → Type 0
+abbrev pub UpdateRest : Query → List Token → Type 0
 UpdateRest = Then Name (λ table. Then (Keyed keyword.Set) (λ _. Then (Separated (λ done. Equation (NewName (is_set done)))) (λ sets. Then Filter (λ filter. Is (query.Update table sets filter)))))
 
 exact_update : Exact UpdateRest is_end update_at
@@ -207,7 +196,7 @@ exact_update =
     begins : (table : List ℕ) (sets : List ColExpr) (y : Query) (vs rest : List Token) → Then Filter (λ filter. Is (query.Update table sets filter)) y vs → is_end (symbol_at rest) ≡ true → closes_list (symbol_at (vs ++ rest)) ≡ true
     begins table sets y vs rest (both filter z us ws p here) follows = subst (λ ts. closes_list (symbol_at ts) ≡ true) (sym (append_assoc us [] rest)) (filter_follows filter us rest p follows)
 
-abbrev DeleteRest : Query → List Token → Type 0
+abbrev pub DeleteRest : Query → List Token → Type 0
 DeleteRest = Then (Keyed keyword.From) (λ _. Then Name (λ table. Then Filter (λ filter. Is (query.Delete table filter))))
 
 exact_delete : Exact DeleteRest is_end delete_at
@@ -227,20 +216,20 @@ unfolding and_then
 then_same (Ok read) k h same = same read.0 read.1
 then_same (Err at) k h same = refl
 
-brackets_at : List Token → Reading (Unit {0})
+unfoldable pub brackets_at : List Token → Reading (Unit {0})
 brackets_at ts = and_then (sign_at 40 ts) (λ _ inner. and_then (sign_at 42 inner) (λ x after. and_then (sign_at 41 after) (λ _ rest. Ok (x, rest))))
 
-counted_at : List Token → Reading (Unit {0})
+unfoldable pub counted_at : List Token → Reading (Unit {0})
 counted_at ts = and_then (keyword_at keyword.Count ts) (λ _ inner. brackets_at inner)
 
-abbrev CountTokens : Unit {0} → List Token → Type 0
+abbrev pub CountTokens : Unit {0} → List Token → Type 0
 CountTokens = Then (Keyed keyword.Count) (λ _. Bracketed (Signed 42))
 
 exact_counted : Exact CountTokens any counted_at
 unfolding counted_at brackets_at
 exact_counted = exact_next (Keyed keyword.Count) (λ _. Bracketed (Signed 42)) any (keyword_at keyword.Count) _ (exact_keyword keyword.Count) (λ _. exact_brackets (Signed 42) any (sign_at 42) refl (exact_sign 42))
 
-count_made : List Token → Unit {0} → List Token → Reading Shown
+unfoldable pub count_made : List Token → Unit {0} → List Token → Reading Shown
 count_made ts u rest = Ok (shown.Count (source_text (front ts rest)), rest)
 
 count_last : (ts after : List Token) (x : Unit {0}) → and_then (sign_at 41 after) (λ _ rest. count_made ts x rest) ≡ and_then (and_then (sign_at 41 after) (λ _ rest. Ok (x, rest))) (count_made ts)
@@ -251,7 +240,7 @@ count_last ts after x = by_reading (sign_at 41 after)
     by_reading (Ok read) = refl
     by_reading (Err at) = refl
 
-count_split : (ts : List Token) → count_at ts ≡ and_then (counted_at ts) (count_made ts)
+pub count_split : (ts : List Token) → count_at ts ≡ and_then (counted_at ts) (count_made ts)
 unfolding count_at counted_at brackets_at count_made
 count_split ts =
     then_same (keyword_at keyword.Count ts) _ (λ _ inner. and_then (brackets_at inner) (count_made ts)) (λ _ inner.
@@ -280,10 +269,10 @@ exact_count = record { sound = sound; complete = complete }
         made : List Token → List Token → Reading Shown
         made ws rest = Ok (shown.Count (source_text ws), rest)
 
-abbrev ListRest : List Item → Query → List Token → Type 0
+abbrev pub ListRest : List Item → Query → List Token → Type 0
 ListRest items = Either (From (shown.List items)) (Is (query.Select (shown.List items) None None))
 
-abbrev Listed : Query → List Token → Type 0
+abbrev pub Listed : Query → List Token → Type 0
 Listed = Then (Separated (λ done. IsItem)) (λ items. ListRest items)
 
 list_rest_at : List Item → List Token → Reading Query
@@ -373,10 +362,10 @@ listed_plain : (x : Query) (us rest : List Token) → Listed x us → Plain (sym
 listed_plain x us rest (both items z vs ws (both i y os ps p q) r) =
     subst (λ ts. Plain (symbol_at ts)) (sym (append_assoc (os ++ ps) ws rest ∙ append_assoc os ps (ws ++ rest))) (item_plain i os (ps ++ (ws ++ rest)) p)
 
-abbrev CountOrList : Query → List Token → Type 0
+abbrev pub CountOrList : Query → List Token → Type 0
 CountOrList = Either (Then Counted From) Listed
 
-count_or_list_at : List Token → Reading Query
+unfoldable pub count_or_list_at : List Token → Reading Query
 count_or_list_at ts = cond (is_keyword keyword.Count (symbol_at ts)) (and_then (count_at ts) from_at) (list_at ts)
 
 count_starts : (x : Query) (us rest : List Token) → Then Counted From x us → is_keyword keyword.Count (symbol_at (us ++ rest)) ≡ true
@@ -397,7 +386,7 @@ keyword_no_star k (symbol.Sign b) is = cc is
 keyword_no_star k symbol.Stray is = refl
 keyword_no_star k symbol.End is = refl
 
-abbrev SelectRest : Query → List Token → Type 0
+abbrev pub SelectRest : Query → List Token → Type 0
 SelectRest = Either (Then (Signed 42) (λ _. From shown.All)) CountOrList
 
 exact_select : Exact SelectRest is_end select_at
@@ -440,7 +429,7 @@ same_keyword k s is = by_one (is_one_of k s is)
     by_one : IsOne k s → s ≡ symbol.Keyword k
     by_one (is_one j at ranks) = at ∙ ap (λ w. symbol.Keyword w) (sym (ranked-rank j) ∙ ap ranked (eqb-true (rank_of j) (rank_of k) ranks) ∙ ranked-rank k)
 
-statement_at-is : (k : Keyword) (ts : List Token) → symbol_at ts ≡ symbol.Keyword k → statement_at ts ≡ statement_by k ts
+pub statement_at-is : (k : Keyword) (ts : List Token) → symbol_at ts ≡ symbol.Keyword k → statement_at ts ≡ statement_by k ts
 unfolding statement_at
 statement_at-is k ts is = ap (λ s. statement_of s ts) is
 
@@ -480,14 +469,14 @@ led_read k Q at exact x us rest p follows same =
     let by = led_complete (is_keyword k) Q is_end at exact x us rest p follows in
     statement_at-is k (us ++ rest) (same_keyword k (symbol_at (us ++ rest)) by.tested) ∙ same (us ++ rest) ∙ by.read
 
-statement_complete : (x : Query) (us rest : List Token) → IsQuery x us → is_end (symbol_at rest) ≡ true → statement_at (us ++ rest) ≡ Ok (x, rest)
+pub statement_complete : (x : Query) (us rest : List Token) → IsQuery x us → is_end (symbol_at rest) ≡ true → statement_at (us ++ rest) ≡ Ok (x, rest)
 statement_complete x us rest (create y vs p) follows = led_read keyword.Create CreateRest create_at exact_create x vs rest p follows (λ ts. refl)
 statement_complete x us rest (insert y vs p) follows = led_read keyword.Insert InsertRest insert_at exact_insert x vs rest p follows (λ ts. refl)
 statement_complete x us rest (select y vs p) follows = led_read keyword.Select SelectRest select_at exact_select x vs rest p follows (λ ts. refl)
 statement_complete x us rest (update y vs p) follows = led_read keyword.Update UpdateRest update_at exact_update x vs rest p follows (λ ts. refl)
 statement_complete x us rest (delete y vs p) follows = led_read keyword.Delete DeleteRest delete_at exact_delete x vs rest p follows (λ ts. refl)
 
-exact_statement : Exact IsQuery is_end statement_at
+pub exact_statement : Exact IsQuery is_end statement_at
 unfolding statement_at
 exact_statement = record { sound = λ ts x rest is. statement_sound_of (symbol_at ts) ts x rest refl is; complete = statement_complete }
 

@@ -20,13 +20,13 @@ use Rattle.keeper_dialect.specs.Grammar.{Keyed, Signed, Name, IsTerm, number, ne
 use Rattle.keeper_dialect.proofs.Exact.{Front, Exact, any, same_value, exact_one}
 use Rattle.keeper_dialect.proofs.ReadingLemmas.{same_rest}
 
-abbrev passed : Bool → List Token → Reading (Unit {0})
+abbrev pub passed : Bool → List Token → Reading (Unit {0})
 passed test ts = cond test (Ok (tt, drop 1 ts)) (Err (place_at ts))
 
-abbrev found : Bool → Option (Unit {0})
+abbrev pub found : Bool → Option (Unit {0})
 found test = cond test (Some tt) None
 
-tested : (test : Bool) (ts : List Token) → passed test ts ≡ one_at (found test) ts
+pub tested : (test : Bool) (ts : List Token) → passed test ts ≡ one_at (found test) ts
 tested true ts = refl
 tested false ts = refl
 
@@ -75,7 +75,7 @@ null_is keyword.Values is = cc is
 null_is keyword.Where is = cc is
 
 -- a term by what its first token is
-term_at-symbol : (s : Symbol) (ts : List Token) → symbol_at ts ≡ s → term_at ts ≡ cond (is_sign 45 s) (number_at true (drop 1 ts)) (unsigned_term_by s ts)
+pub term_at-symbol : (s : Symbol) (ts : List Token) → symbol_at ts ≡ s → term_at ts ≡ cond (is_sign 45 s) (number_at true (drop 1 ts)) (unsigned_term_by s ts)
 unfolding term_at
 term_at-symbol s ts is = ap (λ s. cond (is_sign 45 s) (number_at true (drop 1 ts)) (unsigned_term_by s ts)) is
 
@@ -130,7 +130,7 @@ term_complete x us rest (parameter t n is) other = term_at-symbol (symbol.Parame
 term_complete x us rest (name t n named) other = named_term t.symbol t rest n refl named other
 
 -- and back: the term of a token that is neither a word nor a number
-other_is : (s : Symbol) (t : Token) (x : Term) → t.symbol ≡ s → other_term_of s t.text ≡ Some x → IsTerm x (t ∷ [])
+pub other_is : (s : Symbol) (t : Token) (x : Term) → t.symbol ≡ s → other_term_of s t.text ≡ Some x → IsTerm x (t ∷ [])
 other_is (symbol.Keyword k) t x is value = by_null (is_keyword keyword.Null (symbol.Keyword k)) refl value
   where
     by_null : (b : Bool) → is_keyword keyword.Null (symbol.Keyword k) ≡ b → cond b (Some term.Null) None ≡ Some x → IsTerm x (t ∷ [])
@@ -145,7 +145,7 @@ other_is (symbol.Sign b) t x is value = cc value
 other_is symbol.Stray t x is value = cc value
 other_is symbol.End t x is value = cc value
 
-number_is : (minus : Bool) (s : Symbol) (t : Token) (x : Term) → t.symbol ≡ s → number_of minus s t.text ≡ Some x → (n : ℤ) × (t.symbol ≡ symbol.Number) × (signed minus (digits_value 0 t.text) ≡ Some n) × (term.Number n ≡ x)
+pub number_is : (minus : Bool) (s : Symbol) (t : Token) (x : Term) → t.symbol ≡ s → number_of minus s t.text ≡ Some x → (n : ℤ) × (t.symbol ≡ symbol.Number) × (signed minus (digits_value 0 t.text) ≡ Some n) × (term.Number n ≡ x)
 number_is minus (symbol.Keyword k) t x is value = cc value
 number_is minus symbol.Word t x is value = cc value
 number_is minus symbol.QuotedName t x is value = cc value
@@ -192,7 +192,7 @@ decoded : (r : Result (List ℕ) FromHexError) (bytes : List ℕ) → ok_of r �
 decoded (Ok bs) bytes is = let same : bs ≡ bytes = cc is in ap (λ b. Ok b) same
 decoded (Err e) bytes is = cc is
 
-blob_front : (w : Token) (ts : List Token) (bytes : List ℕ) → w.symbol ≡ symbol.Word → is_word w.text (codes "X") ≡ true → digits_behind ts ≡ Some bytes → Front IsTerm (term.Blob bytes) (w ∷ ts) (drop 1 ts)
+pub blob_front : (w : Token) (ts : List Token) (bytes : List ℕ) → w.symbol ≡ symbol.Word → is_word w.text (codes "X") ≡ true → digits_behind ts ≡ Some bytes → Front IsTerm (term.Blob bytes) (w ∷ ts) (drop 1 ts)
 blob_front w [] bytes is word digits = cc digits
 blob_front w (t ∷ ts) bytes is word digits = by_digits (is_text t.symbol && length t.before == 0) refl digits
   where

@@ -9,3 +9,11 @@ pub mod ExactLists
 pub mod ExactParts
 pub mod ExactQueries
 pub mod ReadLemmas
+pub mod Forward
+pub mod ForwardTerms
+pub mod ForwardLists
+pub mod ForwardCols
+pub mod ForwardQueries
+pub mod TokenEnds
+pub mod Stopping
+pub mod TakenLemmas

@@ -11,7 +11,7 @@ use Rattle.keeper_dialect.specs.declared.query.Add.{Add}
 use Rattle.keeper_dialect.specs.Tokens.{Token}
 use Rattle.keeper_dialect.specs.Reading.{Reading, and_then, behind_comma, symbol_at, text_at, is_sign, is_keyword, keyword_at, sign_at, separated}
 use Rattle.keeper_dialect.specs.Terms.{one_at, name_of, name_at, number_of, number_at, blob_or_name, word_term_at, other_term_of, other_term_at, unsigned_term_by, term_at, operator_of, operand_at, add_at, adds_at, expr_at}
-use Rattle.keeper_dialect.specs.Lists.{new_name_at, exprs_at, tuple_at, set_at, item_at, is_plain_word, after_type, key_at, col_name_at, col_def_at}
+use Rattle.keeper_dialect.specs.Lists.{new_name_at, exprs_at, tuple_at, setting_at, set_at, item_at, is_plain_word, after_type, key_at, col_name_at, col_def_at}
 use Rattle.keeper_dialect.proofs.ReadingLemmas.{Within, GoesOn, within_ok, within_err, within_then, within_if, drop_one_within, repeated_within}
 
 one_within : {A : Type 0} (o : Option A) (ts : List Token) (n : ℕ) → length ts ≤ n → Within n (one_at o ts)
@@ -117,7 +117,7 @@ tuple_within ts n few =
     within_then n (sign_at 40 ts) _ (sign_within 40 ts n few) (λ _ inner short. within_then n (separated (λ done. expr_at) inner) _ (separated_within (λ done. expr_at) (λ done us. expr_within us (length us) (omega arith)) inner n short) (λ exprs after less. within_then n (sign_at 41 after) _ (sign_within 41 after n less) (λ _ rest last. within_ok n exprs rest last)))
 
 pub set_within : (done : List ColExpr) (ts : List Token) (n : ℕ) → length ts ≤ n → Within n (set_at done ts)
-unfolding set_at
+unfolding setting_at
 set_within done ts n few =
     within_then n (new_name_at _ ts) _ (new_name_within _ ts n few) (λ name after short. within_then n (sign_at 61 after) _ (sign_within 61 after n short) (λ _ right less. within_then n (expr_at right) _ (expr_within right n less) (λ e rest last. within_ok n _ rest last)))
 

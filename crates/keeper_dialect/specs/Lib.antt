@@ -5,3 +5,5 @@ pub mod Lists
 pub mod Query
 pub mod Grammar
 pub mod Reads
+pub mod Stops
+pub mod Taken

@@ -51,12 +51,16 @@ tuples_at ts = separated (λ done. tuple_at) ts
 abbrev pub is_set : List ColExpr → List ℕ → Bool
 is_set sets name = list_any (λ s. is_same_name s.column name) sets
 
--- a setting of a column that none before it sets
-unfoldable pub set_at : List ColExpr → List Token → Reading ColExpr
-set_at done ts =
-    and_then (new_name_at (is_set done) ts) (λ name after.
+-- a setting of a column whose name isn't taken
+unfoldable pub setting_at : (List ℕ → Bool) → List Token → Reading ColExpr
+setting_at is_taken ts =
+    and_then (new_name_at is_taken ts) (λ name after.
     and_then (sign_at 61 after) (λ _ right.
     and_then (expr_at right) (λ e rest. Ok (record { column = name; expr = e }, rest))))
+
+-- a setting of a column that none before it sets
+abbrev pub set_at : List ColExpr → List Token → Reading ColExpr
+set_at done = setting_at (is_set done)
 
 unfoldable pub sets_at : List Token → Reading (List ColExpr)
 sets_at ts = separated set_at ts

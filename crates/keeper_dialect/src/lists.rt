@@ -1,13 +1,15 @@
 // The lists of the dialect: columns, names, tuples, settings and what is shown.
-ghost use Rattle.std.specs.Prelude.{◌≡◌, ◌++◌, string_bytes, drop, length, OnOk, IfOk, IfErr};
+ghost use Rattle.std.specs.Prelude.{◌≡◌, ◌++◌, ◌||◌, ℕ, List, string_bytes, drop, length, OnOk, IfOk, IfErr};
 ghost use Rattle.keeper_dialect.specs.Reading.{symbol_at, StopsAs};
 ghost use Rattle.keeper_dialect.specs.Tokens.{view, views};
-ghost use Rattle.keeper_dialect.specs.Lists.{is_same_name, is_among, is_set, is_col, has_key, new_name_at, name_list_at, names_at, exprs_at, tuple_at, tuples_at, set_at, sets_at, source_of_token, source_text, item_at, items_at, after_type, key_at, col_name_at, col_def_at, cols_at, col_defs_at};
+ghost use Rattle.keeper_dialect.specs.Lists.{is_same_name, is_col, has_key, new_name_at, name_list_at, names_at, exprs_at, tuple_at, tuples_at, setting_at, sets_at, source_of_token, source_text, item_at, items_at, after_type, key_at, col_name_at, col_def_at, cols_at, col_defs_at};
+ghost use Rattle.keeper_dialect.specs.Taken.{is_taken};
 
 use crate::query::{
     ColDef, ColDefs, ColExpr, ColExprs, DialectFail, Exprs, Item, Items, NameList, Tuples,
 };
 use crate::reader::Reader;
+use crate::taken::Taken;
 use crate::tokens::{Keyword, Symbol, Token};
 use hrana_value::{NoMemory, Txt};
 use std::alloc::Global;
@@ -20,19 +22,6 @@ fn is_same_name(name: &str, other: &str) -> bool
     ensures { result ≡ is_same_name name.now other.now }
 {
     name.eq_ignore_ascii_case(other)
-}
-
-fn is_among(names: &[Txt], name: &str) -> bool
-    ensures { result ≡ is_among names.now name.now }
-{
-    names.iter().any(|other| is_same_name(other.as_str(), name))
-}
-
-fn is_set(sets: &[ColExpr], name: &str) -> bool
-    ensures { result ≡ is_set sets.now name.now }
-{
-    sets.iter()
-        .any(|set| is_same_name(set.column.as_str(), name))
 }
 
 fn is_col(cols: &[ColDef], name: &str) -> bool
@@ -71,15 +60,16 @@ pub(crate) fn source_text(alloc: Global, tokens: &[Token]) -> Result<Txt, NoMemo
 }
 
 impl<'a> Reader<'a> {
-    /// A name that isn't among others.
+    /// A name that isn't taken, which then is.
     #[tactic(auto, unfolding(crate::specs::Lists::new_name_at, crate::specs::Reading::and_then))]
-    fn new_name(&mut self, alloc: Global, names: &[Txt]) -> Result<Txt, DialectFail>
-        ensures read { IfOk result (λ x. new_name_at (is_among names.now) self.old ≡ Ok (x, self.new)) }
-        ensures stops { IfErr result (StopsAs (new_name_at (is_among names.now) self.old)) }
+    fn new_name(&mut self, alloc: Global, taken: &mut Taken) -> Result<Txt, DialectFail>
+        ensures read { IfOk result (λ x. new_name_at (is_taken taken.old) self.old ≡ Ok (x, self.new)) }
+        ensures stops { IfErr result (StopsAs (new_name_at (is_taken taken.old) self.old)) }
+        ensures takes { IfOk result (λ x. (name : List ℕ) → is_taken taken.new name ≡ (is_same_name x name || is_taken taken.old name)) }
     {
         let stop = self.stop();
         let name = self.name(alloc)?;
-        if is_among(names, name.as_str()) {
+        if !taken.take(alloc, name.as_str())? {
             return Err(stop);
         }
         Ok(name)
@@ -92,10 +82,11 @@ impl<'a> Reader<'a> {
         ensures stops { IfErr result (StopsAs (name_list_at self.old)) }
     {
         let mut names = NameList::new(alloc);
-        let first = self.new_name(alloc, names.as_slice())?;
+        let mut taken = Taken::new(alloc);
+        let first = self.new_name(alloc, &mut taken)?;
         names.push(first)?;
         while self.takes(b',') {
-            let name = self.new_name(alloc, names.as_slice())?;
+            let name = self.new_name(alloc, &mut taken)?;
             names.push(name)?;
         }
         Ok(names)
@@ -155,27 +146,14 @@ impl<'a> Reader<'a> {
         Ok(tuples)
     }
 
-    /// The name of a column that isn't set before.
-    #[tactic(auto, unfolding(crate::specs::Lists::new_name_at, crate::specs::Reading::and_then))]
-    fn set_column(&mut self, alloc: Global, sets: &[ColExpr]) -> Result<Txt, DialectFail>
-        ensures read { IfOk result (λ x. new_name_at (is_set sets.now) self.old ≡ Ok (x, self.new)) }
-        ensures stops { IfErr result (StopsAs (new_name_at (is_set sets.now) self.old)) }
+    /// A setting of a column whose name isn't taken, and then is.
+    #[tactic(auto, unfolding(crate::specs::Lists::setting_at, crate::specs::Reading::and_then))]
+    fn set(&mut self, alloc: Global, taken: &mut Taken) -> Result<ColExpr, DialectFail>
+        ensures read { IfOk result (λ x. setting_at (is_taken taken.old) self.old ≡ Ok (x, self.new)) }
+        ensures stops { IfErr result (StopsAs (setting_at (is_taken taken.old) self.old)) }
+        ensures takes { IfOk result (λ x. (name : List ℕ) → is_taken taken.new name ≡ (is_same_name x.column name || is_taken taken.old name)) }
     {
-        let stop = self.stop();
-        let name = self.name(alloc)?;
-        if is_set(sets, name.as_str()) {
-            return Err(stop);
-        }
-        Ok(name)
-    }
-
-    /// A setting of a column that isn't set before.
-    #[tactic(auto, unfolding(crate::specs::Lists::set_at, crate::specs::Reading::and_then))]
-    fn set(&mut self, alloc: Global, sets: &[ColExpr]) -> Result<ColExpr, DialectFail>
-        ensures read { IfOk result (λ x. set_at sets.now self.old ≡ Ok (x, self.new)) }
-        ensures stops { IfErr result (StopsAs (set_at sets.now self.old)) }
-    {
-        let column = self.set_column(alloc, sets)?;
+        let column = self.new_name(alloc, taken)?;
         self.sign(b'=')?;
         let expr = self.expr(alloc)?;
         Ok(ColExpr { column, expr })
@@ -187,10 +165,11 @@ impl<'a> Reader<'a> {
         ensures stops { IfErr result (StopsAs (sets_at self.old)) }
     {
         let mut sets = ColExprs::new(alloc);
-        let first = self.set(alloc, sets.as_slice())?;
+        let mut taken = Taken::new(alloc);
+        let first = self.set(alloc, &mut taken)?;
         sets.push(first)?;
         while self.takes(b',') {
-            let set = self.set(alloc, sets.as_slice())?;
+            let set = self.set(alloc, &mut taken)?;
             sets.push(set)?;
         }
         Ok(sets)

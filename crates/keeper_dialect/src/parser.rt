@@ -2,6 +2,7 @@
 ghost use Rattle.std.specs.Prelude.{IfOk, IfErr};
 ghost use Rattle.keeper_dialect.specs.Grammar.{IsQueryOf, RefusesRightly};
 ghost use Rattle.keeper_dialect.specs.Query.{query_of, AnswersAs};
+ghost use Rattle.keeper_dialect.specs.Stops.{StopsRightly};
 
 use crate::query::{DialectFail, Query};
 use crate::reader::Reader;
@@ -22,6 +23,7 @@ pub fn parse(alloc: Global, sql: &str) -> Result<Query, DialectFail>
     ensures exact { AnswersAs result (query_of sql.now) }
     ensures reads { IfOk result (λ q. IsQueryOf q sql.now) }
     ensures refuses { IfErr result (RefusesRightly sql.now) }
+    ensures stops { IfErr result (StopsRightly sql.now) }
 {
     read(alloc, sql)
 }
