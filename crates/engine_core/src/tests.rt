@@ -133,6 +133,33 @@ fn a_statement_runs_in_a_transaction(rt: HostRuntime) -> Result<(), Fail> {
 }
 
 #[test]
+fn a_commit_is_kept(rt: HostRuntime) -> Result<(), Fail> {
+    let alloc = rt.alloc();
+    let insert = statement(alloc, INSERT, Value::Integer(7))?;
+    let select = statement(alloc, SELECT, Value::Null)?;
+    let mut keeper = PlainKeeper::new(alloc)?;
+    keeper.begin(1, true)?;
+    keeper.run(1, &insert)?;
+    keeper.commit(1)?;
+    assert_eq!(rt; keeper.alone(&select)?.rows.as_slice().len(), 1);
+    Ok(())
+}
+
+#[test]
+fn a_fault_ends_its_transaction(rt: HostRuntime) -> Result<(), Fail> {
+    let alloc = rt.alloc();
+    let insert = statement(alloc, INSERT, Value::Integer(7))?;
+    let select = statement(alloc, SELECT, Value::Null)?;
+    let mut engine = Failing::new(alloc, PlainKeeper::new(alloc)?, &[3])?;
+    engine.begin(1, true)?;
+    engine.run(1, &insert)?;
+    let committed = engine.commit(1);
+    assert_eq!(rt; committed, Err(EngineFail::Fault));
+    assert_eq!(rt; engine.alone(&select)?.rows.as_slice().len(), 0);
+    Ok(())
+}
+
+#[test]
 fn sources_are_read_whole(rt: HostRuntime) -> Result<(), Fail> {
     let alloc = rt.alloc();
     assert_eq!(rt;
