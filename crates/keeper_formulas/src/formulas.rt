@@ -1,5 +1,5 @@
 // Expressions whose names and parameters are resolved, and their values on a row.
-ghost use Rattle.std.specs.Prelude.{◌≡◌, [], ◌∷◌, ◌++◌, OnOk, OnErr, IfOk, IfSome};
+ghost use Rattle.std.specs.Prelude.{◌≡◌, [], ◌∷◌, ◌++◌, length, OnOk, OnErr, IfOk, IfSome, IfNone};
 ghost use Rattle.std.specs.List.{list_all};
 ghost use Rattle.std.specs.Option.{option_copied};
 ghost use Rattle.keeper_formulas.specs.Each.{Gives, map_ok};
@@ -260,7 +260,8 @@ pub fn names_no_column(formula: &Formula) -> bool
 
 /// The value of an expression with an operator on a row of no columns.
 pub fn constant_sum(formula: &Formula) -> Option<Result<Value, Refusal>>
-    ensures { IfSome result (λ value. value ≡ formula_value [] formula.now) }
+    ensures value { IfSome result (λ value. value ≡ formula_value [] formula.now) }
+    ensures single { IfNone result (length formula.now.rest ≡ 0) }
 {
     match formula.rest.as_slice() {
         [] => None,
