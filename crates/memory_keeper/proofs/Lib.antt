@@ -1,5 +1,6 @@
 pub mod RowLemmas
 pub mod KeyLemmas
+pub mod NameLemmas
 pub mod NarrowLemmas
 pub mod TableLemmas
 pub mod ExecLemmas

@@ -1,8 +1,6 @@
 -- What a statement means on a database.
 use Rattle.std.specs.Prelude.{◌≡◌, ℕ, Bool, true, not, ◌||◌, IsTrue, List, [], ◌∷◌, ◌++◌, Option, Some, None, Result, Ok, Err, slice_get, slice_set, if◌then◌else◌}
-use Rattle.std.specs.List.{position}
 use Rattle.std.specs.Option.{option_and_then}
-use Rattle.std.specs.Str.{str_eq_ignore_ascii_case}
 use Rattle.hrana_value.specs.declared.value.Value.{Value}
 use Rattle.keeper_formulas.specs.declared.fail.Refusal.{Refusal}
 use Rattle.keeper_formulas.specs.declared.fail.Refusal.TheVariants.{Syntax, NoTable, TableExists}
@@ -27,11 +25,8 @@ use Rattle.memory_keeper.specs.declared.keeper.Running.{Running}
 use Rattle.memory_keeper.specs.declared.tables.Row.{Row}
 use Rattle.memory_keeper.specs.declared.tables.Table.{Table}
 use Rattle.keeper_formulas.specs.Each.{and_then, map_ok}
+use Rattle.memory_keeper.specs.Names.{table_place}
 use Rattle.memory_keeper.specs.Tables as table
-
--- the place of the table of a name; names compare without regard to ASCII case
-abbrev pub table_place : List Table → List ℕ → Option ℕ
-table_place db name = position (λ t. str_eq_ignore_ascii_case t.name name) db
 
 -- the table of a name with its place
 abbrev pub placed : Option ℕ → Option Table → Result (ℕ × Table) Refusal

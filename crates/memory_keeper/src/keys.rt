@@ -27,7 +27,8 @@ pub struct KeyIndex {
     blobs: BTreeMap<Vec<u8>, usize>,
 }
 
-fn put_vec(
+/// Gives a key its place, and returns the one that it had.
+pub fn put_vec(
     places: &mut BTreeMap<Vec<u8>, usize>,
     key: Vec<u8>,
     place: usize,

@@ -8,6 +8,7 @@ mod insert;
 mod keeper;
 mod keys;
 mod laws;
+mod names;
 mod queries;
 mod rows;
 mod select;

@@ -11,6 +11,7 @@ ghost use Rattle.memory_keeper.specs.Exec.{exec, RunsAs};
 
 use crate::execute::execute;
 use crate::keys::{KeyIndex, has_key_at, span_with_key};
+use crate::names::{TableNames, grown_names};
 use crate::rows::{constant_of, has_key, stays, sum_of_constants};
 use crate::spans::{Span, rows_at};
 use engine_core::{BoundStmt, EngineFail};
@@ -396,19 +397,24 @@ impl Table {
     }
 }
 
-/// The tables of a database, in the order of their creation.
+/// The tables of a database, in the order of their creation, with a map of their names. Where memory was wanting the map is
+/// left out, and a name is searched for table by table.
 #[derive(Debug, Drop)]
 pub struct Database {
     tables: Vec<Table>,
+    names: Option<TableNames>,
 }
 
 impl Model for Database {
     ghost use Rattle.std.specs.Prelude.{List};
     ghost use Rattle.memory_keeper.specs.declared.tables.Table.{Table};
+    ghost use Rattle.memory_keeper.specs.Names.{FindsTables};
 
     ghost Value = { List Table };
 
     ghost view = { λ db. db.tables.items };
+
+    ghost invariant = { λ db. FindsTables db.names db.tables.items };
 }
 
 impl Database {
@@ -418,6 +424,7 @@ impl Database {
     {
         Database {
             tables: Vec::new(alloc),
+            names: Some(TableNames::new(alloc)),
         }
     }
 
@@ -426,9 +433,13 @@ impl Database {
         ensures runs { RunsAs (exec self.old stmt.now) self.old result self.new }
         ensures small { IfOk result IsSmall }
     {
-        execute(alloc, &mut self.tables, stmt)
+        let count = self.tables.len();
+        let answer = execute(alloc, &self.names, &mut self.tables, stmt);
+        self.names = grown_names(alloc, self.names.take(), count, self.tables.as_slice());
+        answer
     }
 
+    /// A copy, with a map of its own.
     pub fn copy(&self, alloc: Global) -> Result<Database, NoMemory>
         ensures { IfOk result (λ copy. copy ≡ self.now) }
     {
@@ -436,6 +447,7 @@ impl Database {
         for table in &self.tables {
             tables.push(table.copy(alloc)?)?;
         }
-        Ok(Database { tables })
+        let names = grown_names(alloc, Some(TableNames::new(alloc)), 0, tables.as_slice());
+        Ok(Database { tables, names })
     }
 }

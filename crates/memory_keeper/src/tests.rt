@@ -135,6 +135,25 @@ fn statements_are_answered(rt: HostRuntime) -> Result<(), Fail> {
 }
 
 #[test]
+fn tables_are_found_by_name(rt: HostRuntime) -> Result<(), Fail> {
+    play(
+        &rt,
+        rt.alloc(),
+        &[
+            ("CREATE TABLE b (x)", " 0"),
+            ("CREATE TABLE Ab (y)", " 0"),
+            ("CREATE TABLE a (z)", " 0"),
+            ("CREATE TABLE aB (c)", "Refused(TableExists)"),
+            ("INSERT INTO AB VALUES (1)", " 1 1"),
+            ("SELECT * FROM ab", "y| (1 ) 0"),
+            ("SELECT * FROM A", "z| 0"),
+            ("SELECT * FROM B", "x| 0"),
+            ("SELECT * FROM abc", "Refused(NoTable)"),
+        ],
+    )
+}
+
+#[test]
 fn refusals_come_in_order(rt: HostRuntime) -> Result<(), Fail> {
     play(
         &rt,
