@@ -10,7 +10,7 @@ use Rattle.std.specs.Str.{bytes_eq}
 use Rattle.std.proofs.lemmas.Bool.{cases_Bool, cond-true, cond-false}
 use Rattle.std.proofs.lemmas.Map.Text.{is_eq-slice_cmp}
 use Rattle.std.proofs.lemmas.List.{take_more, drop_more, append_assoc, take-append-le, drop-append-le, take-append-drop, append-nil, length-map, take-map, drop-map, drop-drop, take_more_set, drop-set-lt}
-use Rattle.std.proofs.Math.Seq.{take-append_seam, drop-append-add, map-set_same}
+use Rattle.std.proofs.Math.Seq.{take-append_seam, drop-append-add, map-set_same, drop-length}
 use Rattle.std.proofs.Math.ListN.{set}
 use Rattle.std.specs.Prelude.{slice_range}
 use Rattle.hrana_value.specs.declared.value.Value.TheVariants.{Null, Integer, Text, Blob}
@@ -225,6 +225,24 @@ set_between rows i row h =
     sym (take-append-drop (i + 1) (set rows i row))
     ∙ ap (λ l. l ++ drop (i + 1) (set rows i row)) (take_more_set rows i row h)
     ∙ ap (λ l. take i rows ++ (row ∷ []) ++ l) (drop-set-lt (i + 1) rows i row (omega arith))
+
+-- rows in the place of all others
+pub replaced_all : (rows : List Row) (span : Span) (news : List Row) → span.from ≡ 0 → span.to ≡ length rows → replaced rows span news ≡ news
+replaced_all rows span news from to =
+    ap (λ n. take n rows ++ news ++ drop span.to rows) from
+    ∙ ap (λ n. take 0 rows ++ news ++ drop n rows) to
+    ∙ ap (λ l. news ++ l) (drop-length rows)
+    ∙ append-nil news
+
+-- one row more on either side, with one key
+pub same_keys_more : (place : ℕ) (rows news : List Row) (i : ℕ) (row new : Row) → keys_of place (take i news) ≡ keys_of place (take i rows) → i < length rows → row ≡ get_or rows i row → i < length news → new ≡ get_or news i new → is_equal (value_at new.values place) (value_at row.values place) ≡ true → keys_of place (take (i + 1) news) ≡ keys_of place (take (i + 1) rows)
+same_keys_more place rows news i row new same h is k new_is equal =
+    ap (keys_of place) (row_behind [] news i new k new_is)
+    ∙ keys_of-append place (take i news) (new ∷ [])
+    ∙ ap (λ l. l ++ value_at new.values place ∷ []) same
+    ∙ ap (λ v. keys_of place (take i rows) ++ v ∷ []) (same_key (value_at new.values place) (value_at row.values place) equal)
+    ∙ sym (keys_of-append place (take i rows) (row ∷ []))
+    ∙ sym (ap (keys_of place) (row_behind [] rows i row h is))
 
 -- one row in the place of another
 pub replaced_one : (rows : List Row) (span : Span) (news : List Row) (row : Row) → length news ≡ 1 → row ≡ get_or news 0 row → span.from + 1 ≡ span.to → span.from < length rows → replaced rows span news ≡ set rows span.from row

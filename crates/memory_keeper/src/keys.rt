@@ -5,7 +5,7 @@ ghost use Rattle.std.specs.BTreeMap.{get};
 ghost use Rattle.std.specs.Ordering.{int_cmp, int_eq};
 ghost use Rattle.std.specs.Str.{bytes_eq};
 ghost use Rattle.hrana_value.specs.declared.value.Value.{Value as SqlValue};
-ghost use Rattle.memory_keeper.specs.Keys.{place_of_bytes, place_of_key, HasKeysOf, FindsOnly, Encloses};
+ghost use Rattle.memory_keeper.specs.Keys.{place_of_bytes, place_of_key, HasKeysOf, FindsOnly, Encloses, keys_of};
 ghost use Rattle.memory_keeper.specs.declared.tables.Row.{Row};
 ghost use Rattle.memory_keeper.specs.Constraint.{keeps_key};
 ghost use Rattle.keeper_formulas.specs.Values.{value_at, value_or_null, is_null, is_equal};
@@ -181,4 +181,21 @@ pub fn has_key_at(rows: &[Row], index: &KeyIndex, place: usize, row: &Row) -> bo
     let old = value_at(rows[place].values.as_slice(), index.place);
     let new = value_at(row.values.as_slice(), index.place);
     are_equal(old, new)
+}
+
+/// Whether rows have the keys of others, one after another. A null key is that of no row.
+pub fn have_keys_of(place: usize, rows: &[Row], news: &[Row]) -> bool
+    ensures { IsTrue result → keys_of place news.now ≡ keys_of place rows.now }
+{
+    if rows.len() != news.len() {
+        return false;
+    }
+    for (number, row) in rows.iter().enumerate() {
+        let old = value_at(row.values.as_slice(), place);
+        let new = value_at(news[number].values.as_slice(), place);
+        if !are_equal(new, old) {
+            return false;
+        }
+    }
+    true
 }

@@ -10,7 +10,7 @@ ghost use Rattle.memory_keeper.specs.Tables.{stays, shown_rows, chosen_count};
 ghost use Rattle.memory_keeper.specs.Exec.{exec, RunsAs};
 
 use crate::execute::execute;
-use crate::keys::{KeyIndex, has_key_at, span_with_key};
+use crate::keys::{KeyIndex, has_key_at, have_keys_of, span_with_key};
 use crate::names::{TableNames, grown_names};
 use crate::rows::{constant_of, has_key, stays, sum_of_constants};
 use crate::spans::{Span, rows_at};
@@ -136,6 +136,20 @@ fn is_like(
     match (index, key) {
         (Some(index), Some(column)) => {
             index.place == column && has_key_at(rows, index, place, row)
+        }
+        _ => false,
+    }
+}
+
+/// Whether rows may stand in the place of others with their keys, so that the index stays and the constraint is kept.
+fn are_like(rows: &[Row], index: &Option<KeyIndex>, key: Option<usize>, news: &[Row]) -> bool
+    requires { Indexes index.now rows.now }
+    ensures keys { IsTrue result → Indexes index.now news.now }
+    ensures kept { IsTrue result → keeps_key key [] news.now ≡ true }
+{
+    match (index, key) {
+        (Some(index), Some(column)) => {
+            index.place == column && have_keys_of(index.place, rows, news)
         }
         _ => false,
     }
@@ -292,6 +306,13 @@ impl TableRows {
         ensures left { IfOk result (λ kept. kept ≡ false → self.new ≡ self.old) }
         ensures err { OnErr result (self.new ≡ self.old) }
     {
+        if span.from == 0
+            && span.to == self.items.len()
+            && are_like(self.items.as_slice(), &self.index, key, news.as_slice())
+        {
+            self.items = news;
+            return Ok(true);
+        }
         if let [row] = news.as_slice() {
             if is_like(self.items.as_slice(), &self.index, key, span.from, row) {
                 put_only(&mut self.items, span, news);
