@@ -1,7 +1,6 @@
 pub mod RowLemmas
-pub mod KeyLemmas
 pub mod NameLemmas
-pub mod NarrowLemmas
+pub mod UpdateLemmas
 pub mod TableLemmas
 pub mod ExecLemmas
 pub mod ClassLemmas

@@ -25,10 +25,11 @@ use Rattle.keeper_formulas.specs.Formulas.{equation_of, condition_of}
 use Rattle.keeper_formulas.specs.declared.fail.Refusal.{Refusal}
 use Rattle.keeper_formulas.specs.declared.fail.Refusal.TheVariants.{Constraint, Overflow, Syntax}
 use Rattle.keeper_formulas.specs.declared.formulas.Equation.{Equation}
-use Rattle.memory_keeper.specs.Constraint.{breaks_key}
+use Rattle.keeper_rows.specs.Constraint.{breaks_key}
 use Rattle.memory_keeper.specs.Exec.{placed, table_of, on_table, created, selected_from, run_query, fits_class, run_parsed, outcome, ended, exec, RunsAs}
 use Rattle.memory_keeper.specs.Names.{table_place, place_of_name, HasNamesOf, FindsTables}
-use Rattle.memory_keeper.specs.Tables.{places_of, tuple_of, row_added, tuple_added, tuples_added, all_updated, chosen_count, insert, update, delete}
+use Rattle.memory_keeper.specs.Tables.{places_of, tuple_of, row_added, tuple_added, tuples_added, all_updated, insert, update, delete}
+use Rattle.keeper_rows.specs.Chosen.{chosen_count}
 use Rattle.memory_keeper.specs.declared.names.TableNames.{TableNames}
 use Rattle.memory_keeper.specs.declared.tables.Table.{Table}
 

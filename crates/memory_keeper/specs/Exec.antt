@@ -22,7 +22,7 @@ use Rattle.engine_core.specs.declared.engine.EngineFail.TheVariants as fail
 use Rattle.engine_core.specs.declared.statement.BoundStmt.{BoundStmt}
 use Rattle.keeper_formulas.specs.Refusals.{code_of}
 use Rattle.memory_keeper.specs.declared.keeper.Running.{Running}
-use Rattle.memory_keeper.specs.declared.tables.Row.{Row}
+use Rattle.keeper_rows.specs.declared.row.Row.{Row}
 use Rattle.memory_keeper.specs.declared.tables.Table.{Table}
 use Rattle.keeper_formulas.specs.Each.{and_then, map_ok}
 use Rattle.memory_keeper.specs.Names.{table_place}

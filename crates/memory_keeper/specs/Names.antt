@@ -4,7 +4,7 @@ use Rattle.std.specs.List.{position}
 use Rattle.std.specs.Str.{str_eq_ignore_ascii_case, str_to_ascii_lowercase}
 use Rattle.memory_keeper.specs.declared.names.TableNames.{TableNames}
 use Rattle.memory_keeper.specs.declared.tables.Table.{Table}
-use Rattle.memory_keeper.specs.Keys.{place_of_bytes}
+use Rattle.keeper_rows.specs.Keys.{place_of_bytes}
 
 -- the place of the table of a name; names compare without regard to ASCII case
 abbrev pub table_place : List Table → List ℕ → Option ℕ

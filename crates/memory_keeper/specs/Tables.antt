@@ -1,8 +1,8 @@
 -- Tables, and what the statements on one table mean.
-use Rattle.std.specs.Prelude.{ℕ, ℤ, pos, zero, suc, ◌+◌, ◌-◌, ◌^◌, ◌==◌, nat_lt, nat_le, Bool, true, false, not, ◌&&◌, List, [], ◌∷◌, ◌++◌, length, map, filter, replicate, count_by, Option, Some, None, Result, Ok, Err, if◌then◌else◌}
+use Rattle.std.specs.Prelude.{ℕ, ℤ, pos, zero, suc, ◌+◌, ◌-◌, ◌^◌, ◌==◌, nat_lt, nat_le, Bool, ◌&&◌, List, [], ◌∷◌, ◌++◌, length, map, filter, replicate, Option, Some, None, Result, Ok, Err, if◌then◌else◌}
 use Rattle.std.specs.List.{position, range_with_len, zip}
 use Rattle.hrana_value.specs.declared.value.Value.{Value}
-use Rattle.hrana_value.specs.declared.value.Value.TheVariants.{Null, Integer}
+use Rattle.hrana_value.specs.declared.value.Value.TheVariants.{Null}
 use Rattle.keeper_formulas.specs.declared.fail.Refusal.{Refusal}
 use Rattle.keeper_formulas.specs.declared.fail.Refusal.TheVariants.{NoColumn, Constraint, Overflow, ResultTooLarge}
 use Rattle.hrana_stmt.specs.declared.results.Col.{Col}
@@ -16,11 +16,12 @@ use Rattle.keeper_dialect.specs.declared.query.Shown.TheVariants as shown
 use Rattle.keeper_formulas.specs.declared.formulas.Equation.{Equation}
 use Rattle.keeper_formulas.specs.declared.formulas.Picture.{Picture}
 use Rattle.keeper_formulas.specs.declared.formulas.Picture.TheVariants as picture
-use Rattle.memory_keeper.specs.declared.tables.Row.{Row}
+use Rattle.keeper_rows.specs.declared.row.Row.{Row}
 use Rattle.memory_keeper.specs.declared.tables.Table.{Table}
 use Rattle.keeper_formulas.specs.Each.{and_then, map_ok, each, somes}
-use Rattle.memory_keeper.specs.Constraint.{breaks_key, keeps_key}
-use Rattle.keeper_formulas.specs.Formulas.{place_of, known, formula_of, equation_of, condition_of, formula_value, is_met, assigned}
+use Rattle.keeper_rows.specs.Constraint.{breaks_key, keeps_key}
+use Rattle.keeper_rows.specs.Chosen.{is_chosen, on_chosen, chosen_count, stays, shown_rows}
+use Rattle.keeper_formulas.specs.Formulas.{place_of, known, formula_of, equation_of, condition_of, assigned}
 
 -- ---- results
 
@@ -41,23 +42,6 @@ fits rows = nat_le (length rows) 4096 && nat_le (rows_size rows) 1048576
 abbrev pub fitting : List (List ℕ) → List (List Value) → Result StmtResult Refusal
 fitting names rows = if fits rows then Ok (selected names rows) else Err ResultTooLarge
 
--- ---- which rows
-
--- a row is chosen where there is no WHERE, or it is met
-abbrev pub is_chosen : Option Equation → Row → Result Bool Refusal
-is_chosen None row = Ok true
-is_chosen (Some condition) row = is_met row.values condition
-
--- how many rows are chosen
-abbrev pub chosen_count : Option Equation → List Row → Result ℕ Refusal
-chosen_count condition rows = map_ok (count_by (λ chosen. chosen)) (each (is_chosen condition) rows)
-
--- what a step gives on a chosen row
-abbrev pub on_chosen : {A : Type 0} → Result Bool Refusal → Result A Refusal → Result (Option A) Refusal
-on_chosen (Ok true) given = map_ok Some given
-on_chosen (Ok false) given = Ok None
-on_chosen (Err refusal) given = Err refusal
-
 -- ---- select
 
 -- what is shown of a row
@@ -70,23 +54,6 @@ abbrev pub names_of : List (List ℕ) → Shown → List (List ℕ)
 names_of columns shown.All = columns
 names_of columns (shown.Count text) = text ∷ []
 names_of columns (shown.List items) = map (λ item. item.text) items
-
-abbrev pub shown_values : Picture → List Value → Result (List Value) Refusal
-shown_values picture.All row = Ok row
-shown_values picture.Count row = Ok []
-shown_values (picture.List formulas) row = each (formula_value row) formulas
-
--- what is shown of a row, if it is chosen
-abbrev pub row_shown : Picture → Option Equation → Row → Result (Option (List Value)) Refusal
-row_shown picture condition row = on_chosen (is_chosen condition row) (shown_values picture row.values)
-
-abbrev pub chosen_rows : Picture → Option Equation → List Row → Result (List (List Value)) Refusal
-chosen_rows picture condition rows = map_ok somes (each (row_shown picture condition) rows)
-
-abbrev pub shown_rows : Picture → Option Equation → List Row → Result (List (List Value)) Refusal
-shown_rows picture.Count condition rows = map_ok (λ count. (Integer (pos count) ∷ []) ∷ []) (chosen_count condition rows)
-shown_rows picture.All condition rows = chosen_rows picture.All condition rows
-shown_rows (picture.List formulas) condition rows = chosen_rows (picture.List formulas) condition rows
 
 abbrev pub select : List (List ℕ) → List Row → Shown → Option ColExpr → List Value → Result StmtResult Refusal
 select columns rows shown wanted bound =
@@ -170,14 +137,6 @@ update table sets wanted bound =
     and_then (each (equation_of table.columns bound) sets)
     (λ equations. and_then (condition_of table.columns bound wanted)
     (λ condition. map_ok (λ new. (record table { rows = new.0 }, done new.1 None)) (all_updated table.key condition equations table.rows)))
-
-abbrev pub is_ok_true : Result Bool Refusal → Bool
-is_ok_true (Ok chosen) = chosen
-is_ok_true (Err refusal) = false
-
--- the row isn't chosen
-abbrev pub stays : Option Equation → Row → Bool
-stays condition row = not (is_ok_true (is_chosen condition row))
 
 abbrev pub delete : Table → Option ColExpr → List Value → Result (Table × StmtResult) Refusal
 delete table wanted bound =

@@ -3,9 +3,10 @@ ghost use Rattle.std.specs.Prelude.{◌≡◌, map, IfOk};
 ghost use Rattle.std.specs.List.{position};
 ghost use Rattle.memory_keeper.specs.Tables.{new_table};
 
-use crate::tables::{Table, TableRows};
+use crate::tables::Table;
 use hrana_value::{NoMemory, Txt};
 use keeper_dialect::{ColDef, NameList};
+use keeper_rows::TableRows;
 use std::alloc::Global;
 
 fn names_of(alloc: Global, cols: &[ColDef]) -> Result<NameList, NoMemory>

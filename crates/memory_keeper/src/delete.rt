@@ -2,20 +2,21 @@
 ghost use Rattle.std.specs.Prelude.{◌≡◌, filter, IfOk, OnOk, OnErr};
 ghost use Rattle.engine_core.specs.Results.{IsSmall};
 ghost use Rattle.keeper_formulas.specs.Each.{Changes};
-ghost use Rattle.memory_keeper.specs.Tables.{stays, chosen_count, delete};
+ghost use Rattle.keeper_rows.specs.Chosen.{stays, chosen_count};
+ghost use Rattle.memory_keeper.specs.Tables.{delete};
 
-use crate::rows::{chosen_count, done};
-use crate::tables::{Table, TableRows};
+use crate::rows::done;
+use crate::tables::Table;
 use hrana_stmt::StmtResult;
 use hrana_value::Value;
 use keeper_dialect::ColExpr;
 use keeper_formulas::{Equation, Fail, Refusal, condition_of};
+use keeper_rows::{TableRows, chosen_count};
 use std::alloc::Global;
 
 /// Removes the rows that a condition chooses, and says how many.
 fn delete_rows(
     alloc: Global,
-    key: Option<usize>,
     rows: &mut TableRows,
     condition: &Option<Equation>,
 ) -> Result<usize, Refusal>
@@ -25,8 +26,7 @@ fn delete_rows(
 {
     let count = chosen_count(condition, rows.candidates(condition))?;
     if count > 0 {
-        rows.remove_chosen(condition);
-        rows.index_by(alloc, key);
+        rows.remove_chosen(alloc, condition);
     }
     Ok(count)
 }
@@ -42,6 +42,6 @@ pub fn delete(
     ensures small { IfOk result IsSmall }
 {
     let condition = condition_of(alloc, table.columns.as_slice(), bound, wanted)?;
-    let count = delete_rows(alloc, table.key, &mut table.rows, &condition)?;
+    let count = delete_rows(alloc, &mut table.rows, &condition)?;
     Ok(done(alloc, count, None))
 }

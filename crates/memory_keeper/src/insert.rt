@@ -7,12 +7,13 @@ ghost use Rattle.std.specs.List.{range_with_len};
 ghost use Rattle.keeper_formulas.specs.Formulas.{place_of, known};
 ghost use Rattle.memory_keeper.specs.Tables.{places_of, tuple_equation, tuple_of, with_rows, tuple_added, tuples_added, last_rowid, insert};
 
-use crate::rows::{assigned, breaks_key, done};
-use crate::tables::{Row, Table, TableRows};
+use crate::rows::{assigned, done};
+use crate::tables::Table;
 use hrana_stmt::StmtResult;
 use hrana_value::{NoMemory, Txt, Value};
 use keeper_dialect::{Expr, Exprs, NameList};
 use keeper_formulas::{Equation, Equations, Fail, Refusal, formula_of, place_of};
+use keeper_rows::{Row, TableRows, breaks_key};
 use std::alloc::Global;
 
 /// The last rowid that is given.

@@ -6,13 +6,11 @@ mod delete;
 mod execute;
 mod insert;
 mod keeper;
-mod keys;
 mod laws;
 mod names;
 mod queries;
 mod rows;
 mod select;
-mod spans;
 mod tables;
 #[cfg(test)]
 mod tests;
@@ -20,5 +18,4 @@ mod update;
 
 pub use keeper::MemoryKeeper;
 pub use laws::class_refuses_nothing;
-pub use spans::Span;
-pub use tables::{Database, Row, Table, TableRows};
+pub use tables::{Database, Table};

@@ -4,9 +4,9 @@ ghost use Rattle.std.specs.Option.{option_or};
 ghost use Rattle.std.specs.Str.{str_eq_ignore_ascii_case, str_to_ascii_lowercase};
 ghost use Rattle.memory_keeper.specs.Names.{place_of_name, HasNamesOf, FindsTables};
 
-use crate::keys::put_vec;
 use crate::tables::Table;
 use hrana_value::NoMemory;
+use keeper_rows::put_vec;
 use std::alloc::Global;
 use std::collections::BTreeMap;
 

@@ -12,12 +12,13 @@ use crate::insert::insert;
 use crate::names::TableNames;
 use crate::rows::done;
 use crate::select::select;
-use crate::tables::{Row, Table, TableRows};
+use crate::tables::Table;
 use crate::update::update;
 use hrana_stmt::StmtResult;
 use hrana_value::{Txt, Value, Values};
 use keeper_dialect::{ColDef, ColExpr, ColExprs, NameList, Query, Shown, Tuples};
 use keeper_formulas::{Fail, Refusal, is_same_name};
+use keeper_rows::{Row, TableRows};
 use std::alloc::Global;
 
 fn scanned_place(tables: &[Table], name: &str) -> Option<usize>

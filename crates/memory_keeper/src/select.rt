@@ -5,16 +5,16 @@ ghost use Rattle.hrana_value.specs.declared.value.Value.TheVariants.{Integer};
 ghost use Rattle.engine_core.specs.Results.{IsSmall};
 ghost use Rattle.keeper_formulas.specs.Each.{Gives, each};
 ghost use Rattle.keeper_formulas.specs.Formulas.{formula_of, formula_value};
-ghost use Rattle.memory_keeper.specs.Tables.{picture_of, names_of, shown_values, row_shown, shown_rows, chosen_rows, fits, select, named};
+ghost use Rattle.memory_keeper.specs.Tables.{picture_of, names_of, fits, select, named};
+ghost use Rattle.keeper_rows.specs.Chosen.{shown_values, row_shown, shown_rows, chosen_rows};
 
-use crate::rows::{chosen_count, is_chosen};
-use crate::tables::{Row, TableRows};
 use hrana_stmt::{Col, Cols, Rows, StmtResult};
 use hrana_value::{NoMemory, Txt, Value, Values};
 use keeper_dialect::{ColExpr, Item, Shown};
 use keeper_formulas::{
     Equation, Fail, Formula, Formulas, Picture, Refusal, condition_of, formula_of, formula_value,
 };
+use keeper_rows::{Row, TableRows, chosen_count, is_chosen};
 use std::alloc::Global;
 
 /// The most rows of a result.

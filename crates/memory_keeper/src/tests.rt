@@ -349,6 +349,55 @@ fn a_key_finds_its_row(rt: HostRuntime) -> Result<(), Fail> {
 }
 
 #[test]
+fn keys_are_found_where_they_move(rt: HostRuntime) -> Result<(), Fail> {
+    play(
+        &rt,
+        rt.alloc(),
+        &[
+            ("CREATE TABLE t (k PRIMARY KEY, v)", " 0"),
+            (
+                "INSERT INTO t VALUES (1, 'a'), (2, 'b'), (3, 'c'), ('x', 'd')",
+                " 4 4",
+            ),
+            // The rows exchange their keys.
+            (
+                "UPDATE t SET k = 3 - k WHERE v = 'a'",
+                "Refused(Constraint)",
+            ),
+            ("SELECT v FROM t WHERE k = 1", "v| ('a' ) 0"),
+            ("UPDATE t SET k = 4 - k", "Refused(BadType)"),
+            ("UPDATE t SET k = 'y' WHERE k = 'x'", " 1"),
+            ("SELECT v FROM t WHERE k = 'y'", "v| ('d' ) 0"),
+            ("SELECT v FROM t WHERE k = 'x'", "v| 0"),
+            ("DELETE FROM t WHERE k = 'y'", " 1"),
+            ("UPDATE t SET k = 4 - k", " 3"),
+            ("SELECT k, v FROM t", "k|v| (3 'a' ) (2 'b' ) (1 'c' ) 0"),
+            ("SELECT v FROM t WHERE k = 1", "v| ('c' ) 0"),
+            // A refusal at the last row leaves the keys of those before it.
+            ("UPDATE t SET v = 'a' WHERE k = 1", " 1"),
+            ("UPDATE t SET k = v", "Refused(Constraint)"),
+            ("UPDATE t SET v = NULL WHERE k = 1", " 1"),
+            ("UPDATE t SET k = v", "Refused(Constraint)"),
+            ("SELECT v FROM t WHERE k = 3", "v| ('a' ) 0"),
+            ("SELECT v FROM t WHERE k = 1", "v| (null ) 0"),
+            ("SELECT v FROM t WHERE k = 'a'", "v| 0"),
+            // The rows behind a removed one move up.
+            ("DELETE FROM t WHERE k = 3", " 1"),
+            ("SELECT v FROM t WHERE k = 2", "v| ('b' ) 0"),
+            ("INSERT INTO t VALUES (3, 'e'), (4, 'e'), (5, 'f')", " 3 7"),
+            ("DELETE FROM t WHERE v = 'e'", " 2"),
+            ("SELECT v FROM t WHERE k = 5", "v| ('f' ) 0"),
+            ("INSERT INTO t VALUES (5, 'g')", "Refused(Constraint)"),
+            ("INSERT INTO t VALUES (4, 'g')", " 1 8"),
+            (
+                "SELECT * FROM t",
+                "k|v| (2 'b' ) (1 null ) (5 'f' ) (4 'g' ) 0",
+            ),
+        ],
+    )
+}
+
+#[test]
 fn results_have_limits(rt: HostRuntime) -> Result<(), Fail> {
     let alloc = rt.alloc();
     let mut db = Database::new(alloc);

@@ -4,13 +4,13 @@ ghost use Rattle.engine_core.specs.Results.{IsSmall};
 ghost use Rattle.keeper_formulas.specs.Each.{somes, Gives, Refuses, Changes};
 ghost use Rattle.memory_keeper.specs.Tables.{renewal, renewed_row, all_renewed, all_updated, update};
 
-use crate::rows::{assigned, done, is_chosen};
-use crate::spans::rows_at;
-use crate::tables::{Row, Table, TableRows};
+use crate::rows::{assigned, done};
+use crate::tables::Table;
 use hrana_stmt::StmtResult;
 use hrana_value::{NoMemory, Value, Values};
 use keeper_dialect::ColExpr;
 use keeper_formulas::{Equation, Fail, Refusal, condition_of, equations_of};
+use keeper_rows::{Row, TableRows, is_chosen, rows_at};
 use std::alloc::Global;
 
 /// New rows, and how many of them are changed.

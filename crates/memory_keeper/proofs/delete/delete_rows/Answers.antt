@@ -1,5 +1,5 @@
 use Rattle.std.proofs.Common.{◌≡◌, Ok, sym, ap, ◌∙◌, arith}
-use Rattle.memory_keeper.proofs.NarrowLemmas.{none_chosen}
+use Rattle.keeper_rows.proofs.NarrowLemmas.{none_chosen}
 use Rattle.memory_keeper.proofs.delete.delete_rows.Goals as goal
 
 pub returns-else-count-gt0-clause-rows : goal.returns-else-count-gt0-clause-rows

@@ -1,8 +1,9 @@
 use Rattle.std.proofs.Common.{◌∙◌, ap, Ok, None, append-nil, arith}
 use Rattle.keeper_formulas.specs.Each.{somes}
-use Rattle.memory_keeper.specs.Tables.{row_shown, chosen_rows}
+use Rattle.keeper_rows.specs.Chosen.{row_shown, chosen_rows}
 use Rattle.keeper_formulas.proofs.EachLemmas.{gives_refused}
-use Rattle.memory_keeper.proofs.RowLemmas.{chosen_rows_more, refuses_mapped}
+use Rattle.memory_keeper.proofs.RowLemmas.{chosen_rows_more}
+use Rattle.keeper_rows.proofs.RowLemmas.{refuses_mapped}
 use Rattle.memory_keeper.proofs.select.chosen_rows.Goals as goal
 use Rattle.memory_keeper.proofs.select.chosen_rows.Goals.{in-Some+in_ok-push-in-Some, in-None}
 

@@ -1,5 +1,5 @@
 use Rattle.std.proofs.Common.{◌≡◌, Ok, take}
-use Rattle.memory_keeper.specs.Tables.{chosen_rows}
+use Rattle.keeper_rows.specs.Chosen.{chosen_rows}
 use Rattle.memory_keeper.proofs.select.chosen_rows.Given as goal
 
 abbrev pub invariant-loop-row : goal.invariant-loop-row

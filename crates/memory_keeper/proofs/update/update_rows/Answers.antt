@@ -1,9 +1,9 @@
 use Rattle.std.proofs.Common.{◌≡◌, ◌++◌, List, Ok, Err, cond, sym, ap, subst, ◌∙◌, take, drop}
 use Rattle.keeper_formulas.specs.declared.fail.Refusal.TheVariants.{Constraint}
-use Rattle.memory_keeper.specs.declared.tables.Row.{Row}
+use Rattle.keeper_rows.specs.declared.row.Row.{Row}
 use Rattle.memory_keeper.specs.Tables.{all_updated}
 use Rattle.keeper_formulas.proofs.EachLemmas.{changes_refused}
-use Rattle.memory_keeper.proofs.NarrowLemmas.{updated_narrowed, refuses_updated}
+use Rattle.memory_keeper.proofs.UpdateLemmas.{updated_narrowed, refuses_updated}
 use Rattle.memory_keeper.proofs.update.update_rows.Goals as goal
 
 pub returns-in_err-new : goal.returns-in_err-new

@@ -1,0 +1,5 @@
+pub mod Constraint
+pub mod Chosen
+pub mod Spans
+pub mod Removal
+pub mod Keys

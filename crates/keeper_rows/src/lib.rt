@@ -1,0 +1,19 @@
+//! The rows of a table: which of them a condition chooses, the constraint of their key, and an index by it.
+#![tactic(auto)]
+
+mod conditions;
+mod constraint;
+mod keys;
+mod rekeying;
+mod removal;
+mod row;
+mod rows;
+mod spans;
+
+pub use conditions::{chosen_count, is_chosen};
+pub use constraint::breaks_key;
+pub use keys::{KeyIndex, put_vec};
+pub use removal::Removal;
+pub use row::Row;
+pub use rows::TableRows;
+pub use spans::{Span, rows_at};

@@ -1,6 +1,0 @@
-use Rattle.std.proofs.Common.{Some}
-use Rattle.memory_keeper.proofs.KeyLemmas.{updates_bytes}
-use Rattle.memory_keeper.proofs.keys.put_vec.Goals as goal
-
-pub returns-clause-puts : goal.returns-clause-puts
-returns-clause-puts c = updates_bytes (λ key. key.items) c.args.places.now c.insert.new.self c.args.key (Some c.args.place) c.in_ok-insert.ensures.updates

@@ -1,5 +1,0 @@
-use Rattle.memory_keeper.proofs.KeyLemmas.{rows_between}
-use Rattle.memory_keeper.proofs.spans.rows_at.Goals as goal
-
-pub returns-clause-between : goal.returns-clause-between
-returns-clause-between c = rows_between c.args.rows.now c.args.span.from c.args.span.to c.requires.ordered c.requires.within

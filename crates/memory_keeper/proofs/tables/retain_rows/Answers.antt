@@ -1,7 +1,0 @@
-use Rattle.std.proofs.Common.{rules}
-use Rattle.std.proofs.lemmas.Fn.{filter_same}
-use Rattle.memory_keeper.specs.Tables.{stays}
-use Rattle.memory_keeper.proofs.tables.retain_rows.Goals as goal
-
-pub returns : goal.returns
-returns c = filter_same _ (stays c.args.condition.now) _ (λ x b f' k. search rules) _ _ c.retain.ensures.filtered
