@@ -30,16 +30,16 @@ pub struct KeyIndex {
     blobs: BTreeMap<Vec<u8>, usize>,
 }
 
-/// Gives a key its place, and returns the one that it had.
+/// Gives a key its place, in the place of the one that it had.
 pub fn put_vec(
     places: &mut BTreeMap<Vec<u8>, usize>,
     key: Vec<u8>,
     place: usize,
-) -> Result<Option<usize>, NoMemory>
-    ensures old { IfOk result (λ old. old ≡ place_of_bytes places.old key.items) }
-    ensures puts { OnOk result ((bytes : List ℕ) → place_of_bytes places.new bytes ≡ cond (bytes_eq key.items bytes) (Some place) (place_of_bytes places.old bytes)) }
+) -> Result<(), NoMemory>
+    ensures { OnOk result ((bytes : List ℕ) → place_of_bytes places.new bytes ≡ cond (bytes_eq key.items bytes) (Some place) (place_of_bytes places.old bytes)) }
 {
-    Ok(places.insert(key, place)?)
+    places.insert(key, place)?;
+    Ok(())
 }
 
 fn copy_bytes(alloc: Global, bytes: &[u8]) -> Result<Vec<u8>, NoMemory>
@@ -55,22 +55,17 @@ fn put_bytes(
     places: &mut BTreeMap<Vec<u8>, usize>,
     key: &[u8],
     place: usize,
-) -> Result<Option<usize>, NoMemory>
-    ensures old { IfOk result (λ old. old ≡ place_of_bytes places.old key.now) }
-    ensures puts { OnOk result ((bytes : List ℕ) → place_of_bytes places.new bytes ≡ cond (bytes_eq key.now bytes) (Some place) (place_of_bytes places.old bytes)) }
+) -> Result<(), NoMemory>
+    ensures { OnOk result ((bytes : List ℕ) → place_of_bytes places.new bytes ≡ cond (bytes_eq key.now bytes) (Some place) (place_of_bytes places.old bytes)) }
 {
     put_vec(places, copy_bytes(alloc, key)?, place)
 }
 
-fn put_integer(
-    places: &mut BTreeMap<i64, usize>,
-    key: i64,
-    place: usize,
-) -> Result<Option<usize>, NoMemory>
-    ensures old { IfOk result (λ old. old ≡ get int_cmp places.old key) }
-    ensures puts { OnOk result ((number : ℤ) → get int_cmp places.new number ≡ cond (int_eq key number) (Some place) (get int_cmp places.old number)) }
+fn put_integer(places: &mut BTreeMap<i64, usize>, key: i64, place: usize) -> Result<(), NoMemory>
+    ensures { OnOk result ((number : ℤ) → get int_cmp places.new number ≡ cond (int_eq key number) (Some place) (get int_cmp places.old number)) }
 {
-    Ok(places.insert(key, place)?)
+    places.insert(key, place)?;
+    Ok(())
 }
 
 /// Moves the places of keys as a removal of rows does. A key whose row is removed has none any more.
@@ -125,14 +120,13 @@ impl KeyIndex {
         }
     }
 
-    /// Gives a key its place, and returns the one that it had.
-    fn put(&mut self, alloc: Global, key: &Value, place: usize) -> Result<Option<usize>, NoMemory>
-        ensures old { IfOk result (λ old. old ≡ place_of_key self.old key.now) }
+    /// Gives a key its place, in the place of the one that it had.
+    fn put(&mut self, alloc: Global, key: &Value, place: usize) -> Result<(), NoMemory>
         ensures puts { OnOk result ((value : SqlValue) → place_of_key self.new value ≡ cond (is_equal key.now value) (Some place) (place_of_key self.old value)) }
         ensures column { self.new.column ≡ self.old.column }
     {
         match key {
-            Value::Null => Ok(None),
+            Value::Null => Ok(()),
             Value::Integer(number) => put_integer(&mut self.integers, *number, place),
             Value::Text(text) => {
                 put_bytes(alloc, &mut self.texts, text.as_str().as_bytes(), place)

@@ -12,8 +12,7 @@ mod spans;
 
 pub use conditions::{chosen_count, is_chosen};
 pub use constraint::breaks_key;
-pub use keys::{KeyIndex, put_vec};
-pub use removal::Removal;
+pub use keys::put_vec;
 pub use row::Row;
 pub use rows::TableRows;
 pub use spans::{Span, rows_at};

@@ -10,7 +10,7 @@ use keeper_formulas::Equation;
 use std::alloc::Global;
 
 /// A removal of rows: of that at one place, or of many, with the new place of each row that stays.
-#[derive(Debug, Drop)]
+#[derive(Drop)]
 pub enum Removal {
     One(usize),
     Many(Vec<Option<usize>>),

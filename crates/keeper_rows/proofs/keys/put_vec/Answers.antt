@@ -2,5 +2,5 @@ use Rattle.std.proofs.Common.{Some}
 use Rattle.keeper_rows.proofs.KeyLemmas.{updates_bytes}
 use Rattle.keeper_rows.proofs.keys.put_vec.Goals as goal
 
-pub returns-clause-puts : goal.returns-clause-puts
-returns-clause-puts c = updates_bytes (λ key. key.items) c.args.places.now c.insert.new.self c.args.key.items (Some c.args.place) c.in_ok-insert.ensures.updates
+pub returns : goal.returns
+returns c = updates_bytes (λ key. key.items) c.args.places.now c.insert.new.self c.args.key.items (Some c.args.place) c.in_ok-insert.ensures.updates
