@@ -1,6 +1,6 @@
 pub mod RowLemmas
 pub mod NarrowLemmas
 pub mod KeyLemmas
-pub mod PlaceLemmas
-pub mod RemovalLemmas
+pub mod IndexLemmas
+pub mod LeavingLemmas
 pub mod RekeyLemmas

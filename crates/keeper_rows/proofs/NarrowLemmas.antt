@@ -1,5 +1,5 @@
 -- What is shown of rows is what is shown of those that a condition may choose.
-use Rattle.std.proofs.Common.{◌≡◌, ◌+◌, Bool, true, false, cond, not, ◌&&◌, true≢false, ℕ, List, [], ◌∷◌, ◌++◌, append-nil, take, drop, get_or, Option, None, Some, Result, Ok, Err, refl, sym, ap, ◌∙◌, arith}
+use Rattle.std.proofs.Common.{◌≡◌, ◌+◌, Bool, true, false, cond, not, ◌&&◌, true≢false, ℕ, List, [], ◌∷◌, ◌++◌, append-nil, take, drop, get_or, Option, None, Some, is_some, Result, Ok, Err, refl, sym, ap, ◌∙◌, arith}
 use Rattle.std.proofs.lemmas.List.Sums.{sum_by-cons}
 use Rattle.std.proofs.lemmas.List.{take-append-drop, drop_more}
 use Rattle.std.proofs.lemmas.List.Elements.{filter-append}
@@ -104,6 +104,15 @@ none_chosen condition [] p = refl
 none_chosen condition (row ∷ rows) p =
     let q = zero_step (is_chosen condition row) (chosen_count condition rows) (sym (count_step (is_chosen condition row) (each (is_chosen condition) rows)) ∙ p) in
     ap (λ r. cond (not (is_ok_true r)) (row ∷ filter (stays condition) rows) (filter (stays condition) rows)) q.0 ∙ ap (λ l. row ∷ l) (none_chosen condition rows q.1)
+
+pub is_none_from : (condition : Option Equation) → is_some condition ≡ false → condition ≡ None
+is_none_from None p = refl
+is_none_from (Some equation) p = absurd (true≢false p)
+
+-- without a condition none stays
+pub all_removed : (condition : Option Equation) (rows : List Row) → condition ≡ None → filter (stays condition) rows ≡ []
+all_removed condition [] none = refl
+all_removed condition (row ∷ rows) none = ap (λ o. cond (stays o row) (row ∷ filter (stays condition) rows) (filter (stays condition) rows)) none ∙ all_removed condition rows none
 
 passed_stay : (condition : Option Equation) (rows : List Row) → list_all (is_passed condition) rows ≡ true → filter (stays condition) rows ≡ rows
 passed_stay condition [] p = refl

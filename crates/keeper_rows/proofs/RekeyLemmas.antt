@@ -9,10 +9,10 @@ use Rattle.keeper_rows.specs.declared.keys.KeyIndex.{KeyIndex}
 use Rattle.keeper_rows.specs.declared.row.Row.{Row}
 use Rattle.keeper_rows.specs.declared.spans.Span.{Span}
 use Rattle.keeper_rows.specs.Constraint.{keeps_key}
-use Rattle.keeper_rows.specs.Keys.{place_of_key, keys_at, Places, Indexes, stay, Moves, changed_up_to}
+use Rattle.keeper_rows.specs.Keys.{rowid_of_key, keys_at, HasKeys, Indexes, stay, Moves, changed_up_to}
 use Rattle.keeper_rows.specs.Spans.{replaced}
 use Rattle.keeper_rows.proofs.KeyLemmas.{same_key, equal_not_null, equal_self, not_true, neither, keys_sound, keys_apart}
-use Rattle.keeper_rows.proofs.PlaceLemmas.{places_same, vacated_at, filled_at, place_within, indexed, keys_at_row, keys_at_left, keys_at_right}
+use Rattle.keeper_rows.proofs.IndexLemmas.{keys_same, vacated_at, filled_at, place_within, indexed, keys_at_row, keys_at_left, keys_at_right}
 
 -- ---- keys that stay
 
@@ -55,7 +55,7 @@ changed_below count old new q h = sym (cond_below q count (new q) (old q) h)
 pub changed_above : (count : ℕ) (old new : ℕ → Value) (q : ℕ) → count ≤ q → changed_up_to count old new q ≡ old q
 changed_above count old new q h = sym (cond_above q count (new q) (old q) (old q) h refl)
 
-changed_other : (count : ℕ) (old new : ℕ → Value) (q : ℕ) → q ≢ count → changed_up_to (count + 1) old new q ≡ changed_up_to count old new q
+pub changed_other : (count : ℕ) (old new : ℕ → Value) (q : ℕ) → q ≢ count → changed_up_to (count + 1) old new q ≡ changed_up_to count old new q
 changed_other count old new q differ =
     ⊎_elim
     (λ less. changed_below (count + 1) old new q (omega (arith, less)) ∙ sym (changed_below count old new q less))
@@ -65,18 +65,18 @@ changed_other count old new q differ =
 -- ---- one row
 
 -- its old key is taken out where the new one differs
-pub vacates_one : (index new_index : KeyIndex) (old new : ℕ → Value) (p : ℕ) (was is : Value) → old p ≡ was → new p ≡ is → ((key : Value) → place_of_key new_index key ≡ cond (not (is_equal is was) && is_equal was key) None (place_of_key index key)) → Places index (changed_up_to p old (λ q. stay (old q) (new q))) → Places new_index (changed_up_to (p + 1) old (λ q. stay (old q) (new q)))
+pub vacates_one : (index new_index : KeyIndex) (old new : ℕ → Value) (p : ℕ) (was is : Value) → old p ≡ was → new p ≡ is → ((key : Value) → rowid_of_key new_index key ≡ cond (not (is_equal is was) && is_equal was key) None (rowid_of_key index key)) → HasKeys index (changed_up_to p old (λ q. stay (old q) (new q))) → HasKeys new_index (changed_up_to (p + 1) old (λ q. stay (old q) (new q)))
 vacates_one index new_index old new p was is was_at is_at takes has =
     ⊎_elim
-    (λ holds. places_same index new_index f g
+    (λ holds. keys_same index new_index f g
     (λ q. ⊎_elim
     (λ e. subst (λ n. g n ≡ f n) (sym e) (g_at ∙ stays_at ∙ cond-true (is_equal is was) was Null holds ∙ sym was_at ∙ sym f_at))
     (changed_other p old s q)
     (cases_eq q p))
-    (λ key. takes key ∙ ap (λ b. cond (not b && is_equal was key) None (place_of_key index key)) holds)
+    (λ key. takes key ∙ ap (λ b. cond (not b && is_equal was key) None (rowid_of_key index key)) holds)
     has)
     (λ fails. vacated_at index new_index f g p (changed_other p old s) (g_at ∙ stays_at ∙ cond-false (is_equal is was) was Null fails)
-    (λ key. takes key ∙ ap (λ b. cond (not b && is_equal was key) None (place_of_key index key)) fails ∙ ap (λ v. cond (is_equal v key) None (place_of_key index key)) (sym (f_at ∙ was_at)))
+    (λ key. takes key ∙ ap (λ b. cond (not b && is_equal was key) None (rowid_of_key index key)) fails ∙ ap (λ v. cond (is_equal v key) None (rowid_of_key index key)) (sym (f_at ∙ was_at)))
     has)
     (cases_Bool (is_equal is was))
   where
@@ -114,19 +114,19 @@ sound_when_free was is there free =
     (cases_Bool (is_equal is was))
 
 -- its new key is put in where the old one differs
-pub fills_one : (index new_index : KeyIndex) (old new : ℕ → Value) (p : ℕ) (was is : Value) → old p ≡ was → new p ≡ is → true ≡ (is_equal is was || not (is_null is || is_some (place_of_key index is))) → ((key : Value) → place_of_key new_index key ≡ cond (not (is_equal is was) && is_equal is key) (Some p) (place_of_key index key)) → Places index (changed_up_to p (λ q. stay (old q) (new q)) new) → Places new_index (changed_up_to (p + 1) (λ q. stay (old q) (new q)) new)
-fills_one index new_index old new p was is was_at is_at free puts has =
+pub fills_one : (index new_index : KeyIndex) (old new : ℕ → Value) (p rowid : ℕ) (was is : Value) → old p ≡ was → new p ≡ is → true ≡ (is_equal is was || not (is_null is || is_some (rowid_of_key index is))) → ((key : Value) → rowid_of_key new_index key ≡ cond (not (is_equal is was) && is_equal is key) (Some rowid) (rowid_of_key index key)) → HasKeys index (changed_up_to p (λ q. stay (old q) (new q)) new) → HasKeys new_index (changed_up_to (p + 1) (λ q. stay (old q) (new q)) new)
+fills_one index new_index old new p rowid was is was_at is_at free puts has =
     ⊎_elim
-    (λ holds. places_same index new_index f g
+    (λ holds. keys_same index new_index f g
     (λ q. ⊎_elim
     (λ e. subst (λ n. g n ≡ f n) (sym e) (g_at ∙ is_at ∙ same_key is was holds ∙ sym (cond-true (is_equal is was) was Null holds) ∙ sym stays_at ∙ sym f_at))
     (changed_other p s new q)
     (cases_eq q p))
-    (λ key. puts key ∙ ap (λ b. cond (not b && is_equal is key) (Some p) (place_of_key index key)) holds)
+    (λ key. puts key ∙ ap (λ b. cond (not b && is_equal is key) (Some rowid) (rowid_of_key index key)) holds)
     has)
-    (λ fails. filled_at index new_index f g p (changed_other p s new) (f_at ∙ stays_at ∙ cond-false (is_equal is was) was Null fails)
-    (ap (place_of_key index) (g_at ∙ is_at) ∙ is_none (place_of_key index is) (free_key (is_equal is was) (is_null is) (is_some (place_of_key index is)) free fails).1)
-    (λ key. puts key ∙ ap (λ b. cond (not b && is_equal is key) (Some p) (place_of_key index key)) fails ∙ ap (λ v. cond (is_equal v key) (Some p) (place_of_key index key)) (sym (g_at ∙ is_at)))
+    (λ fails. filled_at index new_index f g p rowid (changed_other p s new) (f_at ∙ stays_at ∙ cond-false (is_equal is was) was Null fails)
+    (ap (λ k. is_some (rowid_of_key index k)) (g_at ∙ is_at) ∙ (free_key (is_equal is was) (is_null is) (is_some (rowid_of_key index is)) free fails).1)
+    (λ key. puts key ∙ ap (λ b. cond (not b && is_equal is key) (Some rowid) (rowid_of_key index key)) fails ∙ ap (λ v. cond (is_equal v key) (Some rowid) (rowid_of_key index key)) (sym (g_at ∙ is_at)))
     has)
     (cases_Bool (is_equal is was))
   where
@@ -148,10 +148,6 @@ fills_one index new_index old new p was is was_at is_at free puts has =
     stays_at : s p ≡ stay was is
     stays_at = ap (λ v. stay v (new p)) was_at ∙ ap (stay was) is_at
 
-    is_none : (o : Option ℕ) → is_some o ≡ false → o ≡ None
-    is_none None p = refl
-    is_none (Some q) p = absurd (true≢false p)
-
 -- where it isn't free, another row has it
 pub stop_reasons : (same null there : Bool) → false ≡ (same || not (null || there)) → (same ≡ false) × ((null || there) ≡ true)
 stop_reasons true null there p = absurd (true≢false (sym p))
@@ -162,10 +158,10 @@ stop_reasons false false false p = absurd (true≢false (sym p))
 -- ---- all rows
 
 -- before the first and behind the last nothing is taken out
-pub vacates_start : (index : KeyIndex) (column from : ℕ) (olds news : List Row) (old new : ℕ → Value) → Moves column from olds news old new → Places index old → Places index (changed_up_to (from + 0) old (λ q. stay (old q) (new q)))
+pub vacates_start : (index : KeyIndex) (column from : ℕ) (olds news : List Row) (old new : ℕ → Value) → Moves column from olds news old new → HasKeys index old → HasKeys index (changed_up_to (from + 0) old (λ q. stay (old q) (new q)))
 vacates_start index column from olds news old new moves has =
     let s = λ (q : ℕ). stay (old q) (new q) in
-    places_same index index old (changed_up_to (from + 0) old s)
+    keys_same index index old (changed_up_to (from + 0) old s)
     (λ q.
     ⊎_elim
     (λ less. changed_below (from + 0) old s q (omega (arith, less)) ∙ stay_equal (old q) (new q) (moves.ahead q less))
@@ -174,10 +170,10 @@ vacates_start index column from olds news old new moves has =
     (λ key. refl)
     has
 
-pub vacates_end : (index : KeyIndex) (column from count : ℕ) (olds news : List Row) (old new : ℕ → Value) → Moves column from olds news old new → length olds ≤ count → Places index (changed_up_to (from + count) old (λ q. stay (old q) (new q))) → Places index (λ q. stay (old q) (new q))
+pub vacates_end : (index : KeyIndex) (column from count : ℕ) (olds news : List Row) (old new : ℕ → Value) → Moves column from olds news old new → length olds ≤ count → HasKeys index (changed_up_to (from + count) old (λ q. stay (old q) (new q))) → HasKeys index (λ q. stay (old q) (new q))
 vacates_end index column from count olds news old new moves all has =
     let s = λ (q : ℕ). stay (old q) (new q) in
-    places_same index index (changed_up_to (from + count) old s) s
+    keys_same index index (changed_up_to (from + count) old s) s
     (λ q.
     ⊎_elim
     (λ less. sym (changed_below (from + count) old s q less))
@@ -186,10 +182,10 @@ vacates_end index column from count olds news old new moves all has =
     (λ key. refl)
     has
 
-pub fills_start : (index : KeyIndex) (column from : ℕ) (olds news : List Row) (old new : ℕ → Value) → Moves column from olds news old new → Places index (λ q. stay (old q) (new q)) → Places index (changed_up_to (from + 0) (λ q. stay (old q) (new q)) new)
+pub fills_start : (index : KeyIndex) (column from : ℕ) (olds news : List Row) (old new : ℕ → Value) → Moves column from olds news old new → HasKeys index (λ q. stay (old q) (new q)) → HasKeys index (changed_up_to (from + 0) (λ q. stay (old q) (new q)) new)
 fills_start index column from olds news old new moves has =
     let s = λ (q : ℕ). stay (old q) (new q) in
-    places_same index index s (changed_up_to (from + 0) s new)
+    keys_same index index s (changed_up_to (from + 0) s new)
     (λ q.
     ⊎_elim
     (λ less. changed_below (from + 0) s new q (omega (arith, less)) ∙ moves.ahead q less ∙ sym (stay_equal (old q) (new q) (moves.ahead q less)))
@@ -198,10 +194,10 @@ fills_start index column from olds news old new moves has =
     (λ key. refl)
     has
 
-pub fills_end : (index : KeyIndex) (column from count : ℕ) (olds news : List Row) (old new : ℕ → Value) → Moves column from olds news old new → length olds ≤ count → Places index (changed_up_to (from + count) (λ q. stay (old q) (new q)) new) → Places index new
+pub fills_end : (index : KeyIndex) (column from count : ℕ) (olds news : List Row) (old new : ℕ → Value) → Moves column from olds news old new → length olds ≤ count → HasKeys index (changed_up_to (from + count) (λ q. stay (old q) (new q)) new) → HasKeys index new
 fills_end index column from count olds news old new moves all has =
     let s = λ (q : ℕ). stay (old q) (new q) in
-    places_same index index (changed_up_to (from + count) s new) new
+    keys_same index index (changed_up_to (from + count) s new) new
     (λ q.
     ⊎_elim
     (λ less. sym (changed_below (from + count) s new q less))
@@ -263,11 +259,11 @@ moves_undone column from count olds news some others old new moves within many s
       behind = λ p past. changed_above (from + count) s old p (omega (arith, past, long)) ∙ sym (changed_above (from + count) s new p (omega (arith, past, long)));
     }
 
-pub undone : (index : KeyIndex) (from count : ℕ) (old new : ℕ → Value) → Places index (λ q. stay (changed_up_to (from + count) (λ q. stay (old q) (new q)) new q) (changed_up_to (from + count) (λ q. stay (old q) (new q)) old q)) → Places index (λ q. stay (new q) (old q))
+pub undone : (index : KeyIndex) (from count : ℕ) (old new : ℕ → Value) → HasKeys index (λ q. stay (changed_up_to (from + count) (λ q. stay (old q) (new q)) new q) (changed_up_to (from + count) (λ q. stay (old q) (new q)) old q)) → HasKeys index (λ q. stay (new q) (old q))
 undone index from count old new has =
     let s = λ (q : ℕ). stay (old q) (new q) in
     let n = from + count in
-    places_same index index (λ q. stay (changed_up_to n s new q) (changed_up_to n s old q)) (λ q. stay (new q) (old q))
+    keys_same index index (λ q. stay (changed_up_to n s new q) (changed_up_to n s old q)) (λ q. stay (new q) (old q))
     (λ q.
     ⊎_elim
     (λ less. sym (ap (λ v. stay v (changed_up_to n s old q)) (changed_below n s new q less) ∙ ap (stay (new q)) (changed_below n s old q less)))
@@ -279,7 +275,7 @@ undone index from count old new has =
 -- ---- the constraint
 
 -- where all new keys are put in, the rows keep the constraint
-pub kept_when_filled : (index : KeyIndex) (column from : ℕ) (olds news rows others : List Row) → index.column ≡ column → Moves column from olds news (keys_at column rows) (keys_at column others) → length others ≡ length rows → keeps_key (Some column) [] rows ≡ true → ((i : ℕ) → i < length olds → is_null (keys_at column others (from + i)) ≡ false) → Places index (keys_at column others) → Indexes (Some index) others
+pub kept_when_filled : (index : KeyIndex) (column from : ℕ) (olds news rows others : List Row) → index.column ≡ column → Moves column from olds news (keys_at column rows) (keys_at column others) → length others ≡ length rows → keeps_key (Some column) [] rows ≡ true → ((i : ℕ) → i < length olds → is_null (keys_at column others (from + i)) ≡ false) → HasKeys index (keys_at column others) → Indexes (Some index) others
 kept_when_filled index column from olds news rows others is moves many kept sound has =
     indexed index column others is has (λ p h.
     ⊎_elim
@@ -291,12 +287,8 @@ kept_when_filled index column from olds news rows others is moves many kept soun
     (cases_lt p (from + length olds)))
     (cases_lt p from))
 
-found_some : (o : Option ℕ) → is_some o ≡ true → (q : ℕ) × (o ≡ Some q)
-found_some None p = absurd (true≢false (sym p))
-found_some (Some q) p = (q, refl)
-
 -- where one isn't, they don't
-pub broken_when_stopped : (index : KeyIndex) (column p : ℕ) (others : List Row) (old : ℕ → Value) → p < length others → is_equal (keys_at column others p) (old p) ≡ false → (is_null (keys_at column others p) || is_some (place_of_key index (keys_at column others p))) ≡ true → Places index (changed_up_to p (λ q. stay (old q) (keys_at column others q)) (keys_at column others)) → keeps_key (Some column) [] others ≡ false
+pub broken_when_stopped : (index : KeyIndex) (column p : ℕ) (others : List Row) (old : ℕ → Value) → p < length others → is_equal (keys_at column others p) (old p) ≡ false → (is_null (keys_at column others p) || is_some (rowid_of_key index (keys_at column others p))) ≡ true → HasKeys index (changed_up_to p (λ q. stay (old q) (keys_at column others q)) (keys_at column others)) → keeps_key (Some column) [] others ≡ false
 broken_when_stopped index column p others old within differs reason has = not_true (keeps_key (Some column) [] others) broken
   where
     new : ℕ → Value
@@ -319,9 +311,8 @@ broken_when_stopped index column p others old within differs reason has = not_tr
         (λ most. let at = changed_above p s new q most in at ∙ stays_new (old q) (new q) (sym (ap is_null at) ∙ sound))
         (cases_lt q p)
 
-    twice : keeps_key (Some column) [] others ≡ true → (q : ℕ) → place_of_key index (new p) ≡ Some q → ⊥
-    twice kept q found =
-        let here = (has (new p) q).0 found in
+    twice : keeps_key (Some column) [] others ≡ true → (q : ℕ) → is_equal (f q) (new p) ≡ true → ⊥
+    twice kept q here =
         let at = is_new q (equal_not_null (f q) (new p) here) in
         let apart : q ≢ p = λ e. true≢false (sym here ∙ ap (λ n. is_equal (f n) (new p)) e ∙ ap (λ k. is_equal k (new p)) empty) in
         let there = place_within column others q (sym (ap is_null at) ∙ equal_not_null (f q) (new p) here) in
@@ -331,8 +322,8 @@ broken_when_stopped index column p others old within differs reason has = not_tr
     broken kept =
         ⊎_elim
         (λ null. true≢false (sym null ∙ keys_sound column others kept p within))
-        (λ there. let found = found_some (place_of_key index (new p)) there in twice kept found.0 found.1)
-        (or_cases (is_null (new p)) (is_some (place_of_key index (new p))) reason)
+        (λ there. let found = has.finds (new p) there in twice kept found.0 found.1)
+        (or_cases (is_null (new p)) (is_some (rowid_of_key index (new p))) reason)
 
 -- ---- the rows of a table
 
@@ -350,6 +341,6 @@ replaced_long rows news span as_many within =
     omega (arith, ahead, front, behind, all, as_many, within)
 
 -- an index of rows whose column is named otherwise
-pub indexes_by : (result : Option KeyIndex) (column : ℕ) (rows : List Row) → keeps_key (Some column) [] rows ≡ true → IfSome result (λ index. index.column ≡ column) → IfSome result (λ index. Places index (keys_at column rows)) → Indexes result rows
+pub indexes_by : (result : Option KeyIndex) (column : ℕ) (rows : List Row) → keeps_key (Some column) [] rows ≡ true → IfSome result (λ index. index.column ≡ column) → IfSome result (λ index. HasKeys index (keys_at column rows)) → Indexes result rows
 indexes_by None column rows kept is has = tt
-indexes_by (Some index) column rows kept is has = subst (λ c. Places index (keys_at c rows) × (keeps_key (Some c) [] rows ≡ true)) (sym is) (has, kept)
+indexes_by (Some index) column rows kept is has = subst (λ c. HasKeys index (keys_at c rows) × (keeps_key (Some c) [] rows ≡ true)) (sym is) (has, kept)

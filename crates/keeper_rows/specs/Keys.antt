@@ -1,5 +1,5 @@
--- The places of rows by their keys.
-use Rattle.std.specs.Prelude.{◌≡◌, ℕ, ◌+◌, ◌<◌, ◌≤◌, ◌↔◌, true, nat_lt, List, [], length, get_or, map, cond, Option, Some, None, Vec, IfSome}
+-- The keys of rows, and an index by them.
+use Rattle.std.specs.Prelude.{◌≡◌, ℕ, ◌+◌, ◌<◌, ◌≤◌, true, nat_lt, List, [], length, get_or, map, cond, is_some, Option, Some, None, Vec, IfSome}
 use Rattle.std.specs.BTreeMap.{BTreeMap, get, get_by}
 use Rattle.std.specs.Cmp.Lexicographic.{slice_cmp}
 use Rattle.std.specs.Ordering.{int_cmp, nat_cmp}
@@ -8,17 +8,19 @@ use Rattle.hrana_value.specs.declared.value.Value.TheVariants.{Null, Integer, Te
 use Rattle.keeper_rows.specs.declared.keys.KeyIndex.{KeyIndex}
 use Rattle.keeper_rows.specs.declared.row.Row.{Row}
 use Rattle.keeper_formulas.specs.Values.{value_at, is_equal}
+use Rattle.keeper_formulas.specs.declared.formulas.Equation.{Equation}
+use Rattle.keeper_rows.specs.Chosen.{stays}
 use Rattle.keeper_rows.specs.Constraint.{keeps_key}
 
-abbrev pub place_of_bytes : {A : Type 0} → BTreeMap (Vec ℕ A) ℕ → List ℕ → Option ℕ
-place_of_bytes places bytes = get_by (λ key. slice_cmp nat_cmp bytes key.items) places
+abbrev pub value_of_bytes : {A V : Type 0} → BTreeMap (Vec ℕ A) V → List ℕ → Option V
+value_of_bytes map bytes = get_by (λ key. slice_cmp nat_cmp bytes key.items) map
 
--- the place that the index has for a key
-abbrev pub place_of_key : KeyIndex → Value → Option ℕ
-place_of_key index Null = None
-place_of_key index (Integer number) = get int_cmp index.integers number
-place_of_key index (Text text) = place_of_bytes index.texts text
-place_of_key index (Blob bytes) = place_of_bytes index.blobs bytes
+-- the rowid that the index has for a key
+abbrev pub rowid_of_key : KeyIndex → Value → Option ℕ
+rowid_of_key index Null = None
+rowid_of_key index (Integer number) = get int_cmp index.integers number
+rowid_of_key index (Text text) = value_of_bytes index.texts text
+rowid_of_key index (Blob bytes) = value_of_bytes index.blobs bytes
 
 -- the keys of rows
 abbrev pub keys_of : ℕ → List Row → List Value
@@ -28,13 +30,24 @@ keys_of column rows = map (λ row. value_at row.values column) rows
 abbrev pub keys_at : ℕ → List Row → ℕ → Value
 keys_at column rows place = get_or (keys_of column rows) place Null
 
--- the index has the place of each key, and no others: so no two places have one key, and a null key has none
-abbrev pub Places : KeyIndex → (ℕ → Value) → Type 0
-Places index keys = (key : Value) (place : ℕ) → (place_of_key index key ≡ Some place) ↔ (is_equal (keys place) key ≡ true)
+-- the index has each of the keys, and no others; no two are equal, and a null key is none
+pub record HasKeys (index : KeyIndex) (keys : ℕ → Value) : Type 0 where
+  pub has : (key : Value) (place : ℕ) → is_equal (keys place) key ≡ true → is_some (rowid_of_key index key) ≡ true
+  pub finds : (key : Value) → is_some (rowid_of_key index key) ≡ true → (place : ℕ) × (is_equal (keys place) key ≡ true)
+  pub apart : (key : Value) (place other : ℕ) → is_equal (keys place) key ≡ true → is_equal (keys other) key ≡ true → place ≡ other
 
--- the index, if there is one, has the places of the rows by their keys, and the rows keep the constraint of the key
+-- the index, if there is one, has the keys of the rows, and the rows keep the constraint of the key
 abbrev pub Indexes : Option KeyIndex → List Row → Type 0
-Indexes index rows = IfSome index (λ i. Places i (keys_at i.column rows) × (keeps_key (Some i.column) [] rows ≡ true))
+Indexes index rows = IfSome index (λ i. HasKeys i (keys_at i.column rows) × (keeps_key (Some i.column) [] rows ≡ true))
+
+-- ---- rows that go
+
+-- from a place on some rows go if a condition chooses them, and the other keys stay
+pub record Leaves (condition : Option Equation) (column from : ℕ) (rows : List Row) (old left : ℕ → Value) : Type 0 where
+  pub ahead : (place : ℕ) → place < from → left place ≡ old place
+  pub was : (i : ℕ) (row : Row) → i < length rows → row ≡ get_or rows i row → old (from + i) ≡ value_at row.values column
+  pub is : (i : ℕ) (row : Row) → i < length rows → row ≡ get_or rows i row → left (from + i) ≡ cond (stays condition row) (old (from + i)) Null
+  pub behind : (place : ℕ) → from + length rows ≤ place → left place ≡ old place
 
 -- ---- new keys
 

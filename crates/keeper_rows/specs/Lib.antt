@@ -1,5 +1,4 @@
 pub mod Constraint
 pub mod Chosen
 pub mod Spans
-pub mod Removal
 pub mod Keys

@@ -9,7 +9,8 @@ use crate::rows::TableRows;
 use hrana_value::Value;
 use keeper_formulas::{is_equal, is_null};
 
-fn is_at(place: usize, row: &Row, value: &Value) -> bool
+/// Whether a row has a value in a column.
+pub fn is_at(place: usize, row: &Row, value: &Value) -> bool
     ensures { result ≡ is_equal (value_at row.now.values place) value.now }
 {
     match row.values.as_slice().get(place) {

@@ -1,44 +1,44 @@
-// The places of rows by their keys, so that a key is found in a time that is logarithmic in the rows.
+// The rowids of rows by their keys, so that a key is found in a time that is logarithmic in the rows. A rowid stays while rows
+// before it go.
 ghost use Rattle.std.specs.Prelude.{◌≡◌, ◌+◌, ◌<◌, ◌^◌, length, ℕ, ℤ, List, [], None, Some, ◌++◌, ◌||◌, not, cond, false, is_some, IsTrue, IfOk, IfSome, OnOk};
-ghost use Rattle.std.specs.Option.{option_copied, option_and_then};
-ghost use Rattle.std.specs.BTreeMap.{get, IsOrdered};
+ghost use Rattle.std.specs.Option.{option_copied};
+ghost use Rattle.std.specs.BTreeMap.{get};
 ghost use Rattle.std.specs.Ordering.{int_cmp, int_eq};
 ghost use Rattle.std.specs.Str.{bytes_eq};
 ghost use Rattle.hrana_value.specs.declared.value.Value.{Value as SqlValue};
-ghost use Rattle.keeper_rows.specs.Keys.{place_of_bytes, place_of_key, keys_at, Places};
+ghost use Rattle.keeper_rows.specs.Keys.{value_of_bytes, rowid_of_key, keys_at, HasKeys};
 ghost use Rattle.keeper_rows.specs.Spans.{Encloses};
-ghost use Rattle.keeper_rows.specs.Removal.{new_place, moved};
 ghost use Rattle.keeper_rows.specs.declared.row.Row.{Row};
 ghost use Rattle.keeper_rows.specs.Constraint.{keeps_key};
 ghost use Rattle.keeper_formulas.specs.Values.{value_at, value_or_null, is_null, is_equal};
 
-use crate::removal::Removal;
+use crate::constraint::is_at;
 use crate::row::Row;
-use crate::spans::{Span, one_place};
+use crate::spans::{Span, every_place, one_place};
 use hrana_value::{NoMemory, Value};
 use keeper_formulas::{is_null, value_at};
 use std::alloc::Global;
 use std::collections::BTreeMap;
 
-/// The places of rows by their keys. A key that is null has no place.
+/// The rowids of rows by their keys. A key that is null has none.
 #[derive(Debug, Drop)]
 pub struct KeyIndex {
     /// The place of the key among the columns.
     pub column: usize,
-    integers: BTreeMap<i64, usize>,
-    texts: BTreeMap<Vec<u8>, usize>,
-    blobs: BTreeMap<Vec<u8>, usize>,
+    integers: BTreeMap<i64, u64>,
+    texts: BTreeMap<Vec<u8>, u64>,
+    blobs: BTreeMap<Vec<u8>, u64>,
 }
 
-/// Gives a key its place, in the place of the one that it had.
-pub fn put_vec(
-    places: &mut BTreeMap<Vec<u8>, usize>,
+/// Gives a key a value, in the place of the one that it had.
+pub fn put_vec<V: Drop>(
+    map: &mut BTreeMap<Vec<u8>, V>,
     key: Vec<u8>,
-    place: usize,
+    value: V,
 ) -> Result<(), NoMemory>
-    ensures { OnOk result ((bytes : List ℕ) → place_of_bytes places.new bytes ≡ cond (bytes_eq key.items bytes) (Some place) (place_of_bytes places.old bytes)) }
+    ensures { OnOk result ((bytes : List ℕ) → value_of_bytes map.new bytes ≡ cond (bytes_eq key.items bytes) (Some value) (value_of_bytes map.old bytes)) }
 {
-    places.insert(key, place)?;
+    map.insert(key, value)?;
     Ok(())
 }
 
@@ -52,52 +52,38 @@ fn copy_bytes(alloc: Global, bytes: &[u8]) -> Result<Vec<u8>, NoMemory>
 
 fn put_bytes(
     alloc: Global,
-    places: &mut BTreeMap<Vec<u8>, usize>,
+    map: &mut BTreeMap<Vec<u8>, u64>,
     key: &[u8],
-    place: usize,
+    rowid: u64,
 ) -> Result<(), NoMemory>
-    ensures { OnOk result ((bytes : List ℕ) → place_of_bytes places.new bytes ≡ cond (bytes_eq key.now bytes) (Some place) (place_of_bytes places.old bytes)) }
+    ensures { OnOk result ((bytes : List ℕ) → value_of_bytes map.new bytes ≡ cond (bytes_eq key.now bytes) (Some rowid) (value_of_bytes map.old bytes)) }
 {
-    put_vec(places, copy_bytes(alloc, key)?, place)
+    put_vec(map, copy_bytes(alloc, key)?, rowid)
 }
 
-fn put_integer(places: &mut BTreeMap<i64, usize>, key: i64, place: usize) -> Result<(), NoMemory>
-    ensures { OnOk result ((number : ℤ) → get int_cmp places.new number ≡ cond (int_eq key number) (Some place) (get int_cmp places.old number)) }
+fn put_integer(map: &mut BTreeMap<i64, u64>, key: i64, rowid: u64) -> Result<(), NoMemory>
+    ensures { OnOk result ((number : ℤ) → get int_cmp map.new number ≡ cond (int_eq key number) (Some rowid) (get int_cmp map.old number)) }
 {
-    places.insert(key, place)?;
+    map.insert(key, rowid)?;
     Ok(())
 }
 
-/// Moves the places of keys as a removal of rows does. A key whose row is removed has none any more.
-fn follow_in<K: Ord + Drop>(places: &mut BTreeMap<K, usize>, removal: &Removal)
-    ensures entries { places.new.entries ≡ moved (new_place removal.now) places.old.entries }
-    ensures was_ordered { IsOrdered K.cmp places.old }
+fn remove_integer(map: &mut BTreeMap<i64, u64>, key: i64)
+    ensures { (number : ℤ) → get int_cmp map.new number ≡ cond (int_eq key number) None (get int_cmp map.old number) }
 {
-    places.retain(|_, place| match removal.new_place(*place) {
-        Some(new) => {
-            *place = new;
-            true
-        }
-        None => false,
-    });
+    map.remove(&key);
 }
 
-fn remove_integer(places: &mut BTreeMap<i64, usize>, key: i64)
-    ensures { (number : ℤ) → get int_cmp places.new number ≡ cond (int_eq key number) None (get int_cmp places.old number) }
+fn remove_bytes(map: &mut BTreeMap<Vec<u8>, u64>, key: &[u8])
+    ensures { (bytes : List ℕ) → value_of_bytes map.new bytes ≡ cond (bytes_eq key.now bytes) None (value_of_bytes map.old bytes) }
 {
-    places.remove(&key);
-}
-
-fn remove_bytes(places: &mut BTreeMap<Vec<u8>, usize>, key: &[u8])
-    ensures { (bytes : List ℕ) → place_of_bytes places.new bytes ≡ cond (bytes_eq key.now bytes) None (place_of_bytes places.old bytes) }
-{
-    places.remove(key);
+    map.remove(key);
 }
 
 impl KeyIndex {
     /// The index of no rows, by a column.
     pub fn new(alloc: Global, column: usize) -> KeyIndex
-        ensures places { Places result (keys_at result.column []) }
+        ensures keys { HasKeys result (keys_at result.column []) }
         ensures column { result.column ≡ column }
     {
         KeyIndex {
@@ -108,9 +94,9 @@ impl KeyIndex {
         }
     }
 
-    /// The place of the row with a key.
-    pub fn get(&self, key: &Value) -> Option<usize>
-        ensures { result ≡ place_of_key self.now key.now }
+    /// The rowid of the row with a key.
+    pub fn get(&self, key: &Value) -> Option<u64>
+        ensures { result ≡ rowid_of_key self.now key.now }
     {
         match key {
             Value::Null => None,
@@ -120,30 +106,25 @@ impl KeyIndex {
         }
     }
 
-    /// Gives a key its place, in the place of the one that it had.
-    fn put(&mut self, alloc: Global, key: &Value, place: usize) -> Result<(), NoMemory>
-        ensures puts { OnOk result ((value : SqlValue) → place_of_key self.new value ≡ cond (is_equal key.now value) (Some place) (place_of_key self.old value)) }
+    /// Gives a key its row's rowid, in the place of the one that it had.
+    fn put(&mut self, alloc: Global, key: &Value, rowid: u64) -> Result<(), NoMemory>
+        ensures puts { OnOk result ((value : SqlValue) → rowid_of_key self.new value ≡ cond (is_equal key.now value) (Some rowid) (rowid_of_key self.old value)) }
         ensures column { self.new.column ≡ self.old.column }
     {
         match key {
             Value::Null => Ok(()),
-            Value::Integer(number) => put_integer(&mut self.integers, *number, place),
+            Value::Integer(number) => put_integer(&mut self.integers, *number, rowid),
             Value::Text(text) => {
-                put_bytes(alloc, &mut self.texts, text.as_str().as_bytes(), place)
+                put_bytes(alloc, &mut self.texts, text.as_str().as_bytes(), rowid)
             }
-            Value::Blob(bytes) => put_bytes(alloc, &mut self.blobs, bytes.as_slice(), place),
+            Value::Blob(bytes) => put_bytes(alloc, &mut self.blobs, bytes.as_slice(), rowid),
         }
     }
 
-    /// Gives a key its place, if it isn't null and has none, and says whether. Else nothing changes.
-    pub fn add(
-        &mut self,
-        alloc: Global,
-        key: Option<&Value>,
-        place: usize,
-    ) -> Result<bool, NoMemory>
-        ensures added { IfOk result (λ added. added ≡ not (is_null (value_or_null (option_copied key.entry)) || is_some (place_of_key self.old (value_or_null (option_copied key.entry))))) }
-        ensures puts { IfOk result (λ added. IsTrue added → (value : SqlValue) → place_of_key self.new value ≡ cond (is_equal (value_or_null (option_copied key.entry)) value) (Some place) (place_of_key self.old value)) }
+    /// Gives a key its row's rowid, if it isn't null and has none, and says whether. Else nothing changes.
+    pub fn add(&mut self, alloc: Global, key: Option<&Value>, rowid: u64) -> Result<bool, NoMemory>
+        ensures added { IfOk result (λ added. added ≡ not (is_null (value_or_null (option_copied key.entry)) || is_some (rowid_of_key self.old (value_or_null (option_copied key.entry))))) }
+        ensures puts { IfOk result (λ added. IsTrue added → (value : SqlValue) → rowid_of_key self.new value ≡ cond (is_equal (value_or_null (option_copied key.entry)) value) (Some rowid) (rowid_of_key self.old value)) }
         ensures left { IfOk result (λ added. added ≡ false → self.new ≡ self.old) }
         ensures column { self.new.column ≡ self.old.column }
     {
@@ -153,13 +134,13 @@ impl KeyIndex {
         if is_null(key) || self.get(key).is_some() {
             return Ok(false);
         }
-        self.put(alloc, key, place)?;
+        self.put(alloc, key, rowid)?;
         Ok(true)
     }
 
-    /// Takes a key's place away.
+    /// Takes a key out.
     pub fn remove(&mut self, key: &Value)
-        ensures removes { (value : SqlValue) → place_of_key self.new value ≡ cond (is_equal key.now value) None (place_of_key self.old value) }
+        ensures removes { (value : SqlValue) → rowid_of_key self.new value ≡ cond (is_equal key.now value) None (rowid_of_key self.old value) }
         ensures column { self.new.column ≡ self.old.column }
     {
         match key {
@@ -170,26 +151,25 @@ impl KeyIndex {
         }
     }
 
-    /// Moves the places as a removal of rows does, in one pass. A key whose row is removed has none any more.
-    pub fn follow(&mut self, removal: &Removal)
-        ensures moves { (key : SqlValue) → place_of_key self.new key ≡ option_and_then (new_place removal.now) (place_of_key self.old key) }
+    /// Takes all keys out.
+    pub fn clear(&mut self)
+        ensures keys { HasKeys self.new (keys_at self.new.column []) }
         ensures column { self.new.column ≡ self.old.column }
     {
-        follow_in(&mut self.integers, removal);
-        follow_in(&mut self.texts, removal);
-        follow_in(&mut self.blobs, removal);
+        self.integers.clear();
+        self.texts.clear();
+        self.blobs.clear();
     }
 
-    /// Adds the rows from a place on, and says whether none breaks the key of those before it. It stops at one that does.
-    pub fn add_rows(&mut self, alloc: Global, start: usize, rows: &[Row]) -> Result<bool, NoMemory>
-        requires { start + length rows.now < 2 ^ 64 }
-        ensures kept { IfOk result (λ kept. (before : List Row) → start ≡ length before → Places self.old (keys_at self.old.column before) → kept ≡ keeps_key (Some self.old.column) before rows.now) }
-        ensures places { IfOk result (λ kept. IsTrue kept → (before : List Row) → start ≡ length before → Places self.old (keys_at self.old.column before) → Places self.new (keys_at self.old.column (before ++ rows.now))) }
+    /// Adds rows behind others, and says whether none breaks the key of those before it. It stops at one that does.
+    pub fn add_rows(&mut self, alloc: Global, rows: &[Row]) -> Result<bool, NoMemory>
+        ensures kept { IfOk result (λ kept. (before : List Row) → HasKeys self.old (keys_at self.old.column before) → kept ≡ keeps_key (Some self.old.column) before rows.now) }
+        ensures keys { IfOk result (λ kept. IsTrue kept → (before : List Row) → HasKeys self.old (keys_at self.old.column before) → HasKeys self.new (keys_at self.old.column (before ++ rows.now))) }
         ensures column { self.new.column ≡ self.old.column }
     {
-        for (number, row) in rows.iter().enumerate() {
+        for row in rows {
             let key = value_at(row.values.as_slice(), self.column);
-            if !self.add(alloc, key, start + number)? {
+            if !self.add(alloc, key, row.rowid)? {
                 return Ok(false);
             }
         }
@@ -199,11 +179,11 @@ impl KeyIndex {
     /// The index of rows by a column, if no row breaks the key of those before it.
     pub fn of_rows(alloc: Global, column: usize, rows: &[Row]) -> Result<Option<KeyIndex>, NoMemory>
         ensures kept { IfOk result (λ found. is_some found ≡ keeps_key (Some column) [] rows.now) }
-        ensures places { IfOk result (λ found. IfSome found (λ index. Places index (keys_at column rows.now))) }
+        ensures keys { IfOk result (λ found. IfSome found (λ index. HasKeys index (keys_at column rows.now))) }
         ensures column { IfOk result (λ found. IfSome found (λ index. index.column ≡ column)) }
     {
         let mut index = KeyIndex::new(alloc, column);
-        if index.add_rows(alloc, 0, rows)? {
+        if index.add_rows(alloc, rows)? {
             Ok(Some(index))
         } else {
             Ok(None)
@@ -211,13 +191,36 @@ impl KeyIndex {
     }
 }
 
-/// The place of the row with a key, or no place.
+/// The place of a rowid, where the rows stand in the order of their rowids.
+fn place_of_rowid(rows: &[Row], rowid: u64) -> Option<usize>
+    ensures { IfSome result (λ place. place < length rows.now) }
+{
+    rows.binary_search_by_key(&rowid, |row| row.rowid).ok()
+}
+
+/// Whether the row at a place has a key.
+fn is_keyed(rows: &[Row], column: usize, place: usize, key: &Value) -> bool
+    requires { place < length rows.now }
+    ensures { result ≡ is_equal (keys_at column rows.now place) key.now }
+{
+    is_at(column, &rows[place], key)
+}
+
+/// The place of the row with a key, or no place. Rows stand in the order of their rowids; where they didn't, all places are
+/// answered.
 pub fn span_with_key(rows: &[Row], index: &KeyIndex, key: &Value) -> Span
-    requires { Places index.now (keys_at index.now.column rows.now) }
+    requires { HasKeys index.now (keys_at index.now.column rows.now) }
     ensures { Encloses (λ row. is_equal (value_at row.values index.now.column) key.now) result rows.now }
 {
-    match index.get(key) {
-        Some(place) => one_place(rows, place),
-        None => Span { from: 0, to: 0 },
+    let Some(rowid) = index.get(key) else {
+        return Span { from: 0, to: 0 };
+    };
+    let Some(place) = place_of_rowid(rows, rowid) else {
+        return every_place(rows);
+    };
+    if is_keyed(rows, index.column, place, key) {
+        one_place(rows, place)
+    } else {
+        every_place(rows)
     }
 }

@@ -4,8 +4,8 @@
 mod conditions;
 mod constraint;
 mod keys;
+mod leaving;
 mod rekeying;
-mod removal;
 mod row;
 mod rows;
 mod spans;

@@ -5,7 +5,7 @@ ghost use Rattle.hrana_value.specs.declared.value.Value.{Value as SqlValue};
 ghost use Rattle.keeper_formulas.specs.Values.{value_at, is_null, is_equal};
 ghost use Rattle.keeper_rows.specs.declared.row.Row.{Row};
 ghost use Rattle.keeper_rows.specs.Constraint.{keeps_key};
-ghost use Rattle.keeper_rows.specs.Keys.{place_of_key, Places, Indexes, stay, Moves, changed_up_to};
+ghost use Rattle.keeper_rows.specs.Keys.{rowid_of_key, HasKeys, Indexes, stay, Moves, changed_up_to};
 ghost use Rattle.keeper_rows.specs.Spans.{replaced};
 
 use crate::keys::KeyIndex;
@@ -34,7 +34,7 @@ fn differs(column: usize, old: &Row, new: &Row) -> bool
 
 /// Takes the old key of a row out, if the new one differs.
 fn vacate_row(index: &mut KeyIndex, old: &Row, new: &Row)
-    ensures vacates { (key : SqlValue) → place_of_key index.new key ≡ cond (not (is_equal (value_at new.now.values index.old.column) (value_at old.now.values index.old.column)) && is_equal (value_at old.now.values index.old.column) key) None (place_of_key index.old key) }
+    ensures vacates { (key : SqlValue) → rowid_of_key index.new key ≡ cond (not (is_equal (value_at new.now.values index.old.column) (value_at old.now.values index.old.column)) && is_equal (value_at old.now.values index.old.column) key) None (rowid_of_key index.old key) }
     ensures column { index.new.column ≡ index.old.column }
 {
     if !differs(index.column, old, new) {
@@ -48,7 +48,7 @@ fn vacate_row(index: &mut KeyIndex, old: &Row, new: &Row)
 /// Takes the old keys of rows out, where the new ones differ.
 fn vacate(index: &mut KeyIndex, olds: &[Row], news: &[Row])
     requires { length news.now ≡ length olds.now }
-    ensures vacates { (from : ℕ) (old new : ℕ → SqlValue) → Moves index.old.column from olds.now news.now old new → Places index.old old → Places index.new (λ place. stay (old place) (new place)) }
+    ensures vacates { (from : ℕ) (old new : ℕ → SqlValue) → Moves index.old.column from olds.now news.now old new → HasKeys index.old old → HasKeys index.new (λ place. stay (old place) (new place)) }
     ensures column { index.new.column ≡ index.old.column }
 {
     for (number, old) in olds.iter().enumerate() {
@@ -57,15 +57,9 @@ fn vacate(index: &mut KeyIndex, olds: &[Row], news: &[Row])
 }
 
 /// Puts the new key of a row in, if it differs from the old one, and says whether it was free.
-fn fill_row(
-    alloc: Global,
-    index: &mut KeyIndex,
-    place: usize,
-    old: &Row,
-    new: &Row,
-) -> Result<bool, NoMemory>
-    ensures free { IfOk result (λ free. free ≡ (is_equal (value_at new.now.values index.old.column) (value_at old.now.values index.old.column) || not (is_null (value_at new.now.values index.old.column) || is_some (place_of_key index.old (value_at new.now.values index.old.column))))) }
-    ensures fills { IfOk result (λ free. IsTrue free → (key : SqlValue) → place_of_key index.new key ≡ cond (not (is_equal (value_at new.now.values index.old.column) (value_at old.now.values index.old.column)) && is_equal (value_at new.now.values index.old.column) key) (Some place) (place_of_key index.old key)) }
+fn fill_row(alloc: Global, index: &mut KeyIndex, old: &Row, new: &Row) -> Result<bool, NoMemory>
+    ensures free { IfOk result (λ free. free ≡ (is_equal (value_at new.now.values index.old.column) (value_at old.now.values index.old.column) || not (is_null (value_at new.now.values index.old.column) || is_some (rowid_of_key index.old (value_at new.now.values index.old.column))))) }
+    ensures fills { IfOk result (λ free. IsTrue free → (key : SqlValue) → rowid_of_key index.new key ≡ cond (not (is_equal (value_at new.now.values index.old.column) (value_at old.now.values index.old.column)) && is_equal (value_at new.now.values index.old.column) key) (Some new.now.rowid) (rowid_of_key index.old key)) }
     ensures left { IfOk result (λ free. free ≡ false → index.new ≡ index.old) }
     ensures column { index.new.column ≡ index.old.column }
 {
@@ -73,28 +67,21 @@ fn fill_row(
         return Ok(true);
     }
     let key = value_at(new.values.as_slice(), index.column);
-    index.add(alloc, key, place)
+    index.add(alloc, key, new.rowid)
 }
 
 /// Puts the new keys of rows in, where they differ from the old ones, and says for how many rows: it stops at the first whose
 /// key is null or that of another row.
-fn fill(
-    alloc: Global,
-    index: &mut KeyIndex,
-    from: usize,
-    olds: &[Row],
-    news: &[Row],
-) -> Result<usize, NoMemory>
-    requires as_many { length news.now ≡ length olds.now }
-    requires small { from + length olds.now < 2 ^ 64 }
+fn fill(alloc: Global, index: &mut KeyIndex, olds: &[Row], news: &[Row]) -> Result<usize, NoMemory>
+    requires { length news.now ≡ length olds.now }
     ensures within { IfOk result (λ count. count ≤ length olds.now) }
-    ensures fills { IfOk result (λ count. (old new : ℕ → SqlValue) → Moves index.old.column from olds.now news.now old new → Places index.old (λ place. stay (old place) (new place)) → Places index.new (changed_up_to (from + count) (λ place. stay (old place) (new place)) new)) }
-    ensures sound { IfOk result (λ count. (old new : ℕ → SqlValue) → Moves index.old.column from olds.now news.now old new → (i : ℕ) → i < count → is_null (new (from + i)) ≡ false) }
-    ensures stops { IfOk result (λ count. count < length olds.now → (old new : ℕ → SqlValue) → Moves index.old.column from olds.now news.now old new → (is_equal (new (from + count)) (old (from + count)) ≡ false) × ((is_null (new (from + count)) || is_some (place_of_key index.new (new (from + count)))) ≡ true)) }
+    ensures fills { IfOk result (λ count. (from : ℕ) (old new : ℕ → SqlValue) → Moves index.old.column from olds.now news.now old new → HasKeys index.old (λ place. stay (old place) (new place)) → HasKeys index.new (changed_up_to (from + count) (λ place. stay (old place) (new place)) new)) }
+    ensures sound { IfOk result (λ count. (from : ℕ) (old new : ℕ → SqlValue) → Moves index.old.column from olds.now news.now old new → (i : ℕ) → i < count → is_null (new (from + i)) ≡ false) }
+    ensures stops { IfOk result (λ count. count < length olds.now → (from : ℕ) (old new : ℕ → SqlValue) → Moves index.old.column from olds.now news.now old new → (is_equal (new (from + count)) (old (from + count)) ≡ false) × ((is_null (new (from + count)) || is_some (rowid_of_key index.new (new (from + count)))) ≡ true)) }
     ensures column { index.new.column ≡ index.old.column }
 {
     for (number, old) in olds.iter().enumerate() {
-        if !fill_row(alloc, index, from + number, old, &news[number])? {
+        if !fill_row(alloc, index, old, &news[number])? {
             return Ok(number);
         }
     }
@@ -102,19 +89,12 @@ fn fill(
 }
 
 /// The index with the new keys of rows put in, if all of them are free and there is memory.
-fn filled(
-    alloc: Global,
-    mut index: KeyIndex,
-    from: usize,
-    olds: &[Row],
-    news: &[Row],
-) -> Option<KeyIndex>
-    requires as_many { length news.now ≡ length olds.now }
-    requires small { from + length olds.now < 2 ^ 64 }
-    ensures fills { (old new : ℕ → SqlValue) → Moves index.column from olds.now news.now old new → Places index (λ place. stay (old place) (new place)) → IfSome result (λ filled. Places filled new) }
+fn filled(alloc: Global, mut index: KeyIndex, olds: &[Row], news: &[Row]) -> Option<KeyIndex>
+    requires { length news.now ≡ length olds.now }
+    ensures fills { (from : ℕ) (old new : ℕ → SqlValue) → Moves index.column from olds.now news.now old new → HasKeys index (λ place. stay (old place) (new place)) → IfSome result (λ filled. HasKeys filled new) }
     ensures column { IfSome result (λ filled. filled.column ≡ index.column) }
 {
-    let Ok(count) = fill(alloc, &mut index, from, olds, news) else {
+    let Ok(count) = fill(alloc, &mut index, olds, news) else {
         return None;
     };
     if count < olds.len() {
@@ -141,7 +121,7 @@ pub fn give_keys(
 {
     let olds = rows_at(rows, span);
     vacate(&mut index, olds, news);
-    let count = fill(alloc, &mut index, span.from, olds, news)?;
+    let count = fill(alloc, &mut index, olds, news)?;
     if count == news.len() {
         return Ok(Rekeyed {
             index: Some(index),
@@ -150,7 +130,7 @@ pub fn give_keys(
     }
     vacate(&mut index, &news[..count], &olds[..count]);
     Ok(Rekeyed {
-        index: filled(alloc, index, span.from, news, olds),
+        index: filled(alloc, index, news, olds),
         kept: false,
     })
 }

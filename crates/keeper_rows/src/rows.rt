@@ -3,19 +3,18 @@ ghost use Rattle.std.specs.Prelude.{◌≡◌, ◌+◌, ◌<◌, ◌≤◌, ◌^
 ghost use Rattle.keeper_formulas.specs.declared.formulas.Picture.{Picture};
 ghost use Rattle.keeper_rows.specs.declared.row.Row.{Row};
 ghost use Rattle.keeper_rows.specs.declared.spans.Span.{Span};
-ghost use Rattle.keeper_rows.specs.Keys.{Indexes, Places, keys_at};
+ghost use Rattle.keeper_rows.specs.Keys.{Indexes, HasKeys, keys_at};
 ghost use Rattle.keeper_rows.specs.Constraint.{has_key, keeps_key};
 ghost use Rattle.keeper_rows.specs.Spans.{Spans, replaced};
 ghost use Rattle.keeper_rows.specs.Chosen.{stays, shown_rows, chosen_count};
-ghost use Rattle.keeper_rows.specs.Removal.{new_places};
 
 use crate::conditions::{constant_of, stays, sum_of_constants};
 use crate::constraint::has_key;
 use crate::keys::{KeyIndex, span_with_key};
+use crate::leaving::without_chosen;
 use crate::rekeying::give_keys;
-use crate::removal::{Removal, new_places};
 use crate::row::Row;
-use crate::spans::{Span, rows_at};
+use crate::spans::{Span, every_place, rows_at};
 use hrana_value::{NoMemory, Value};
 use keeper_formulas::Equation;
 use std::alloc::Global;
@@ -47,6 +46,29 @@ fn retain_rows(rows: &mut Vec<Row>, condition: &Option<Equation>)
     rows.retain(|row| stays(condition, row));
 }
 
+/// Removes the row at the one place that a condition may choose, if it does.
+fn remove_only(rows: &mut Vec<Row>, condition: &Option<Equation>, span: Span)
+    requires spans { Spans condition.now span rows.old.items }
+    requires one { span.from + 1 ≡ span.to }
+    ensures { rows.new.items ≡ filter (stays condition.now) rows.old.items }
+{
+    if !stays(condition, &rows[span.from]) {
+        rows.remove(span.from);
+    }
+}
+
+/// Removes the rows that a condition chooses among those at some places.
+fn remove_within(rows: &mut Vec<Row>, condition: &Option<Equation>, span: Span)
+    requires { Spans condition.now span rows.old.items }
+    ensures { rows.new.items ≡ filter (stays condition.now) rows.old.items }
+{
+    if span.to - span.from == 1 {
+        remove_only(rows, condition, span);
+    } else {
+        retain_rows(rows, condition);
+    }
+}
+
 /// An index of no rows, if there is a key.
 fn index_of_none(alloc: Global, key: Option<usize>) -> Option<KeyIndex>
     ensures { Indexes result [] }
@@ -67,66 +89,29 @@ fn index_of(alloc: Global, column: usize, rows: &[Row]) -> Option<KeyIndex>
     }
 }
 
-/// An index with more rows, from a place on; none where one of them breaks the key, or memory is wanting.
-fn grown_index(
-    alloc: Global,
-    index: Option<KeyIndex>,
-    start: usize,
-    rows: &[Row],
-) -> Option<KeyIndex>
-    requires { start + length rows.now < 2 ^ 64 }
-    ensures { (before : List Row) → Indexes index before → start ≡ length before → Indexes result (before ++ rows.now) }
+/// An index with more rows; none where one of them breaks the key, or memory is wanting.
+fn grown_index(alloc: Global, index: Option<KeyIndex>, rows: &[Row]) -> Option<KeyIndex>
+    ensures { (before : List Row) → Indexes index before → Indexes result (before ++ rows.now) }
 {
     let Some(mut index) = index else {
         return None;
     };
-    match index.add_rows(alloc, start, rows) {
+    match index.add_rows(alloc, rows) {
         Ok(true) => Some(index),
         _ => None,
     }
-}
-
-/// The index once the row at a place is removed.
-fn closed_up(index: Option<KeyIndex>, place: usize) -> Option<KeyIndex>
-    ensures { (rows : List Row) → place < length rows → Indexes index rows → Indexes result (take place rows ++ drop (place + 1) rows) }
-{
-    let Some(mut index) = index else {
-        return None;
-    };
-    index.follow(&Removal::One(place));
-    Some(index)
-}
-
-/// The index once rows are removed; none where there was none, or where memory was wanting for the new places.
-fn followed(
-    index: Option<KeyIndex>,
-    places: Result<Vec<Option<usize>>, NoMemory>,
-) -> Option<KeyIndex>
-    ensures { (test : Row → Bool) (rows : List Row) → IfOk places (λ places. places.items ≡ new_places test 0 rows) → Indexes index rows → Indexes result (filter test rows) }
-{
-    let Some(mut index) = index else {
-        return None;
-    };
-    let Ok(places) = places else {
-        return None;
-    };
-    index.follow(&Removal::Many(places));
-    Some(index)
 }
 
 /// All places of rows.
 fn all_places(condition: &Option<Equation>, rows: &[Row]) -> Span
     ensures { Spans condition.now result rows.now }
 {
-    Span {
-        from: 0,
-        to: rows.len(),
-    }
+    every_place(rows)
 }
 
 /// The place of the row that a condition may choose, where it says what the key is, else all places.
 fn span_of(rows: &[Row], index: &KeyIndex, condition: &Option<Equation>) -> Span
-    requires { Places index.now (keys_at index.now.column rows.now) }
+    requires { HasKeys index.now (keys_at index.now.column rows.now) }
     ensures { Spans condition.now result rows.now }
 {
     if let Some(key) = constant_of(index.column, condition) {
@@ -328,7 +313,7 @@ impl TableRows {
         ensures ok { OnOk result (self.new ≡ self.old ++ rows.items) }
         ensures err { OnErr result (self.new ≡ self.old) }
     {
-        let index = grown_index(alloc, self.index.take(), self.items.len(), rows.as_slice());
+        let index = grown_index(alloc, self.index.take(), rows.as_slice());
         match self.items.append(&mut rows) {
             Ok(()) => {
                 self.index = index;
@@ -339,37 +324,12 @@ impl TableRows {
     }
 
     /// Removes the rows that a condition chooses.
-    pub fn remove_chosen(&mut self, alloc: Global, condition: &Option<Equation>)
+    pub fn remove_chosen(&mut self, condition: &Option<Equation>)
         ensures { self.new ≡ filter (stays condition.now) self.old }
     {
         let span = self.span_of(condition);
-        if span.to - span.from == 1 {
-            self.remove_only(condition, span);
-        } else {
-            self.remove_all(alloc, condition);
-        }
-    }
-
-    /// Removes the row at the one place that a condition may choose, if it does.
-    fn remove_only(&mut self, condition: &Option<Equation>, span: Span)
-        requires spans { Spans condition.now span self.old }
-        requires one { span.from + 1 ≡ span.to }
-        ensures { self.new ≡ filter (stays condition.now) self.old }
-    {
-        if stays(condition, &self.items[span.from]) {
-            return;
-        }
-        self.index = closed_up(self.index.take(), span.from);
-        self.items.remove(span.from);
-    }
-
-    /// Removes the rows that a condition chooses among all.
-    fn remove_all(&mut self, alloc: Global, condition: &Option<Equation>)
-        ensures { self.new ≡ filter (stays condition.now) self.old }
-    {
-        let places = new_places(alloc, condition, self.items.as_slice());
-        self.index = followed(self.index.take(), places);
-        retain_rows(&mut self.items, condition);
+        self.index = without_chosen(self.index.take(), condition, self.items.as_slice(), span);
+        remove_within(&mut self.items, condition, span);
     }
 
     /// A copy, with an index of its own if there is one.

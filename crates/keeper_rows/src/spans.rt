@@ -32,3 +32,14 @@ pub fn rows_at(rows: &[Row], span: Span) -> &[Row]
 {
     &rows[span.from..span.to]
 }
+
+/// All places.
+pub fn every_place(rows: &[Row]) -> Span
+    ensures from { result.from ≡ 0 }
+    ensures to { result.to ≡ length rows.now }
+{
+    Span {
+        from: 0,
+        to: rows.len(),
+    }
+}

@@ -15,18 +15,14 @@ use keeper_rows::{TableRows, chosen_count};
 use std::alloc::Global;
 
 /// Removes the rows that a condition chooses, and says how many.
-fn delete_rows(
-    alloc: Global,
-    rows: &mut TableRows,
-    condition: &Option<Equation>,
-) -> Result<usize, Refusal>
+fn delete_rows(rows: &mut TableRows, condition: &Option<Equation>) -> Result<usize, Refusal>
     ensures count { result ≡ chosen_count condition.now rows.old }
     ensures rows { OnOk result (rows.new ≡ filter (stays condition.now) rows.old) }
     ensures err { OnErr result (rows.new ≡ rows.old) }
 {
     let count = chosen_count(condition, rows.candidates(condition))?;
     if count > 0 {
-        rows.remove_chosen(alloc, condition);
+        rows.remove_chosen(condition);
     }
     Ok(count)
 }
@@ -42,6 +38,6 @@ pub fn delete(
     ensures small { IfOk result IsSmall }
 {
     let condition = condition_of(alloc, table.columns.as_slice(), bound, wanted)?;
-    let count = delete_rows(alloc, &mut table.rows, &condition)?;
+    let count = delete_rows(&mut table.rows, &condition)?;
     Ok(done(alloc, count, None))
 }

@@ -19,9 +19,9 @@ returns-then-count-news-clause-indexes c =
     let moves = moves_replaced column rows olds news c.args.span c.rows_at-olds.ensures.between c.rows_at-olds.ensures.many c.requires.as_many c.requires.within in
     let moves_then = subst (λ (k : ℕ). Moves k from olds news old new) (sym c.vacate.ensures.column) moves in
     let all : count ≡ length olds = let many = c.rows_at-olds.ensures.many in let as_many = c.requires.as_many in let is = c.if-count-news.true in omega (arith, many, as_many, is) in
-    let has = fills_end c.fill.new.index column from count olds news old new moves (omega (arith, all)) (c.in_ok-count.ensures.fills old new moves_then (c.vacate.ensures.vacates from old new moves c.requires.indexes.0)) in
+    let has = fills_end c.fill.new.index column from count olds news old new moves (omega (arith, all)) (c.in_ok-count.ensures.fills from old new moves_then (c.vacate.ensures.vacates from old new moves c.requires.indexes.0)) in
     kept_when_filled c.fill.new.index column from olds news rows others (c.in_ok-count.ensures.column ∙ c.vacate.ensures.column) moves (replaced_long rows news c.args.span c.requires.as_many c.requires.within) c.requires.indexes.1
-    (λ i less. c.in_ok-count.ensures.sound old new moves_then i (omega (arith, less, all))) has
+    (λ i less. c.in_ok-count.ensures.sound from old new moves_then i (omega (arith, less, all))) has
 
 pub returns-then-count-news-clause-kept : goal.returns-then-count-news-clause-kept
 returns-then-count-news-clause-kept c =
@@ -48,9 +48,9 @@ returns-clause-kept c =
     let most = c.in_ok-count.ensures.within in
     let differs = c.if-count-news.false in
     let less : count < length olds = omega (arith, most, differs, many, as_many) in
-    let stops = c.in_ok-count.ensures.stops less old new moves_then in
+    let stops = c.in_ok-count.ensures.stops less from old new moves_then in
     let long = replaced_long rows news c.args.span as_many within in
-    sym (broken_when_stopped c.fill.new.index column (from + count) others old (omega (arith, less, many, within, long)) stops.0 stops.1 (c.in_ok-count.ensures.fills old new moves_then (c.vacate.ensures.vacates from old new moves c.requires.indexes.0)))
+    sym (broken_when_stopped c.fill.new.index column (from + count) others old (omega (arith, less, many, within, long)) stops.0 stops.1 (c.in_ok-count.ensures.fills from old new moves_then (c.vacate.ensures.vacates from old new moves c.requires.indexes.0)))
 
 pub returns-clause-indexes : goal.returns-clause-indexes
 returns-clause-indexes c =
@@ -68,7 +68,7 @@ returns-clause-indexes c =
     let same : length news ≡ length olds = omega (arith, many, as_many) in
     let moves = moves_replaced column rows olds news c.args.span c.rows_at-olds.ensures.between many as_many c.requires.within in
     let moves_then = subst (λ (k : ℕ). Moves k from olds news old new) (sym c.vacate.ensures.column) moves in
-    let has = c.in_ok-count.ensures.fills old new moves_then (c.vacate.ensures.vacates from old new moves c.requires.indexes.0) in
+    let has = c.in_ok-count.ensures.fills from old new moves_then (c.vacate.ensures.vacates from old new moves c.requires.indexes.0) in
     let by_fill = c.in_ok-count.ensures.column ∙ c.vacate.ensures.column in
     let by_vacate = c.vacate-2.ensures.column ∙ by_fill in
     let some = take count news in
@@ -79,4 +79,4 @@ returns-clause-indexes c =
     let moves_last = subst (λ (k : ℕ). Moves k from news olds new old) (sym by_vacate) (moves_back column from olds news old new same moves) in
     indexes_by c.filled.result column rows c.requires.indexes.1
     (subst (λ k. IfSome c.filled.result (λ filled. filled.column ≡ k)) by_vacate c.filled.ensures.column)
-    (c.filled.ensures.fills new old moves_last empty)
+    (c.filled.ensures.fills from new old moves_last empty)
