@@ -3,7 +3,6 @@ use Rattle.std.proofs.Common.{◌≡◌, ◌≢◌, ℕ, ◌+◌, ◌<◌, ◌�
 use Rattle.std.specs.List.{list_any}
 use Rattle.std.proofs.lemmas.Bool.{cases_Bool, cases_eq, cases_lt, cond-true, cond-false}
 use Rattle.std.proofs.lemmas.List.{append_assoc, get_or_append_left, get_or_at, get_or_past, get_or-take, get_or-drop, get_or-append-add, length-take-le, take-map, drop-map, length-map, drop_more}
-use Rattle.std.proofs.Math.Seq.{drop-length}
 use Rattle.hrana_value.specs.declared.value.Value.{Value}
 use Rattle.hrana_value.specs.declared.value.Value.TheVariants.{Null}
 use Rattle.keeper_formulas.specs.Values.{value_at, is_null, is_equal}
@@ -142,14 +141,6 @@ encloses_none index column rows key span has none from to =
       behind = ap (λ n. list_any test (drop n rows)) to ∙ sym (has_rows index column rows has key) ∙ none;
     }
 
-pub encloses_every : (test : Row → Bool) (rows : List Row) (span : Span) → span.from ≡ 0 → span.to ≡ length rows → Encloses test span rows
-encloses_every test rows span from to = record {
-  ordered = omega (arith, from, to);
-  within = omega (arith, from, to);
-  before = ap (λ n. list_any test (take n rows)) from;
-  behind = ap (λ n. list_any test (drop n rows)) to ∙ ap (list_any test) (drop-length rows);
-}
-
 -- a row that has the key is the only one
 pub encloses_one : (index : KeyIndex) (column : ℕ) (rows : List Row) (key : Value) (p : ℕ) (span : Span) → HasKeys index (keys_at column rows) → is_equal (keys_at column rows p) key ≡ true → span.from ≡ p → span.to ≡ p + 1 → Encloses (λ row. is_equal (value_at row.values column) key) span rows
 encloses_one index column rows key p span has here from to =
@@ -257,11 +248,3 @@ keeps_key_more index column before rows i row key added h is key_is has added_is
     ∙ ap (λ v. not (is_null v || has_key column (before ++ take i rows) v) && keeps_key (Some column) (before ++ take (i + 1) rows) (drop (i + 1) rows)) (sym key_is)
     ∙ ap (λ b. not (is_null key || b) && keeps_key (Some column) (before ++ take (i + 1) rows) (drop (i + 1) rows)) (sym (has_rows index column (before ++ take i rows) has key))
     ∙ ap (λ b. b && keeps_key (Some column) (before ++ take (i + 1) rows) (drop (i + 1) rows)) (sym added_is)
-
--- an index of no rows
-pub keys_none : (index : KeyIndex) (column : ℕ) → ((key : Value) → rowid_of_key index key ≡ None) → HasKeys index (keys_at column [])
-keys_none index column none = record {
-  has = λ key p holds. absurd (true≢false (sym holds));
-  finds = λ key there. absurd (true≢false (sym there ∙ ap is_some (none key)));
-  apart = λ key p q x y. absurd (true≢false (sym x));
-}

@@ -148,13 +148,6 @@ fills_one index new_index old new p rowid was is was_at is_at free puts has =
     stays_at : s p ≡ stay was is
     stays_at = ap (λ v. stay v (new p)) was_at ∙ ap (stay was) is_at
 
--- where it isn't free, another row has it
-pub stop_reasons : (same null there : Bool) → false ≡ (same || not (null || there)) → (same ≡ false) × ((null || there) ≡ true)
-stop_reasons true null there p = absurd (true≢false (sym p))
-stop_reasons false true there p = (refl, refl)
-stop_reasons false false true p = (refl, refl)
-stop_reasons false false false p = absurd (true≢false (sym p))
-
 -- ---- all rows
 
 -- before the first and behind the last nothing is taken out

@@ -12,6 +12,7 @@ use Rattle.keeper_formulas.specs.declared.formulas.Equation.{Equation}
 use Rattle.keeper_rows.specs.Chosen.{stays}
 use Rattle.keeper_rows.specs.Constraint.{keeps_key}
 
+-- the value that a map has for the bytes of a key
 abbrev pub value_of_bytes : {A V : Type 0} → BTreeMap (Vec ℕ A) V → List ℕ → Option V
 value_of_bytes map bytes = get_by (λ key. slice_cmp nat_cmp bytes key.items) map
 
