@@ -7,7 +7,7 @@ use Rattle.std.specs.List.{list_any}
 use Rattle.std.specs.Map.{lookup, IsKeyTest, AreApart, KeepsOthers}
 use Rattle.std.specs.Ordering.{is_eq, nat_cmp}
 use Rattle.std.specs.Str.{bytes_eq}
-use Rattle.std.proofs.lemmas.Bool.{cases_Bool, cases_order, cond-true, cond-false}
+use Rattle.std.proofs.lemmas.Bool.{cases_Bool, cases_order, cond-true, cond-false, and_parts, and_from}
 use Rattle.std.proofs.lemmas.Map.Text.{is_eq-slice_cmp}
 use Rattle.std.proofs.lemmas.List.{take_more, append_assoc, take-append-drop, append-nil, drop-drop, get_or_append_left, length-map, length-take-le, take-append-le, take-take, drop_at}
 use Rattle.std.specs.Prelude.{slice_range}
@@ -74,10 +74,6 @@ pub not_true : (b : Bool) → (b ≡ true → ⊥) → b ≡ false
 not_true true h = absurd (h refl)
 not_true false h = refl
 
-pub both : (a b : Bool) → (a && b) ≡ true → (a ≡ true) × (b ≡ true)
-both true b p = (refl, p)
-both false b p = absurd (true≢false (sym p))
-
 pub neither : (a b : Bool) → (a || b) ≡ false → (a ≡ false) × (b ≡ false)
 neither true b p = absurd (true≢false p)
 neither false b p = (refl, p)
@@ -132,9 +128,6 @@ keeps_key-keys place before (row ∷ rows) =
     ∙ ap (λ b. not (is_null key || list_any (λ k. is_equal k key) (keys_of place before)) && b) (keeps_key-keys place (before ++ row ∷ []) rows)
     ∙ ap (λ l. not (is_null key || list_any (λ k. is_equal k key) (keys_of place before)) && keys_kept l (keys_of place rows)) (keys_of-append place before (row ∷ []))
 
-and_true : (a b : Bool) → a ≡ true → b ≡ true → (a && b) ≡ true
-and_true a b p q = ap (λ c. c && b) p ∙ q
-
 keeps_key-append : (key : Option ℕ) (before xs ys : List Row) → keeps_key key before (xs ++ ys) ≡ (keeps_key key before xs && keeps_key key (before ++ xs) ys)
 keeps_key-append key before [] ys = ap (λ l. keeps_key key l ys) (sym (append-nil before))
 keeps_key-append key before (x ∷ xs) ys =
@@ -148,14 +141,14 @@ keeps_key-append key before (x ∷ xs) ys =
 
 -- rows that keep the constraint, and more that keep it behind them
 pub keeps_key_both : (key : Option ℕ) (before rows : List Row) → keeps_key key [] before ≡ true → keeps_key key before rows ≡ true → keeps_key key [] (before ++ rows) ≡ true
-keeps_key_both key before rows p q = keeps_key-append key [] before rows ∙ and_true (keeps_key key [] before) (keeps_key key before rows) p q
+keeps_key_both key before rows p q = keeps_key-append key [] before rows ∙ and_from (keeps_key key [] before) (keeps_key key before rows) p q
 
 -- keys that are kept aren't null, and no two are equal
 kept_pairs : (before rest : List Value) → keys_kept before rest ≡ true → (q : ℕ) → q < length rest → (is_null (get_or rest q Null) ≡ false) × ((p : ℕ) → p < length before + q → is_equal (get_or (before ++ rest) p Null) (get_or rest q Null) ≡ false)
 kept_pairs before [] kept q h = absurd (omega arith)
 kept_pairs before (key ∷ rest) kept zero h =
     let fits = not (is_null key || list_any (λ k. is_equal k key) before) in
-    let first = both fits (keys_kept (before ++ key ∷ []) rest) kept in
+    let first = and_parts fits (keys_kept (before ++ key ∷ []) rest) kept in
     let apart = neither (is_null key) (list_any (λ k. is_equal k key) before) (not_not (is_null key || list_any (λ k. is_equal k key) before) first.0) in (
       apart.0,
       λ p h. ap (λ k. is_equal k key) (get_or_append_left before (key ∷ rest) Null p (omega (arith, h))) ∙ none_at_place (λ k. is_equal k key) before p apart.1 (omega (arith, h)),
@@ -165,7 +158,7 @@ kept_pairs before (key ∷ rest) kept zero h =
     not_not true p = absurd (true≢false (sym p))
     not_not false p = refl
 kept_pairs before (key ∷ rest) kept (suc q) h =
-    let first = both (not (is_null key || list_any (λ k. is_equal k key) before)) (keys_kept (before ++ key ∷ []) rest) kept in
+    let first = and_parts (not (is_null key || list_any (λ k. is_equal k key) before)) (keys_kept (before ++ key ∷ []) rest) kept in
     let more = kept_pairs (before ++ key ∷ []) rest first.1 q (omega arith) in
     let long = length-append before (key ∷ []) in (
       more.0,

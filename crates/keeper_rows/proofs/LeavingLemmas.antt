@@ -1,7 +1,7 @@
 -- Lemmas on rows that leave an index.
 use Rattle.std.proofs.Common.{◌≡◌, ℕ, ◌+◌, ◌-◌, ◌<◌, ◌≤◌, true≢false, length-append, arith, Bool, true, false, cond, not, ◌&&◌, is_some, length, get_or, take, drop, filter, List, [], ◌∷◌, ◌++◌, Option, Some, None, suc, zero, refl, sym, ap, subst, ◌∙◌, ⊎_elim, option_and_then, slice_get}
 use Rattle.std.specs.List.{list_all}
-use Rattle.std.proofs.lemmas.Bool.{cases_Bool, cases_lt, cases_eq, cond-true, cond-false}
+use Rattle.std.proofs.lemmas.Bool.{cases_Bool, cases_lt, cases_eq, cond-true, cond-false, and_parts}
 use Rattle.std.proofs.lemmas.List.{length-take-le, length-drop, get_or-take, get_or-drop, get_or_append_left, get_or-append-add}
 use Rattle.hrana_value.specs.declared.value.Value.{Value}
 use Rattle.hrana_value.specs.declared.value.Value.TheVariants.{Null}
@@ -14,7 +14,7 @@ use Rattle.keeper_rows.specs.Chosen.{is_ok_true, stays}
 use Rattle.keeper_rows.specs.Constraint.{keeps_key}
 use Rattle.keeper_rows.specs.Keys.{rowid_of_key, keys_of, keys_at, HasKeys, Indexes, Leaves, changed_up_to}
 use Rattle.keeper_rows.specs.Spans.{is_passed, Spans}
-use Rattle.keeper_rows.proofs.KeyLemmas.{both, equal_not_null, keys_sound}
+use Rattle.keeper_rows.proofs.KeyLemmas.{equal_not_null, keys_sound}
 use Rattle.keeper_rows.proofs.IndexLemmas.{keys_same, vacated_at, some_place, no_place, place_within, indexed, keys_at_past}
 use Rattle.keeper_rows.proofs.NarrowLemmas.{passed}
 use Rattle.keeper_rows.proofs.RekeyLemmas.{changed_below, changed_above, changed_other, moves_replaced}
@@ -176,8 +176,8 @@ row_at (row ∷ rows) (suc p) h = row_at rows p (omega arith)
 
 all_at : (test : Row → Bool) (rows : List Row) (p : ℕ) (row : Row) → list_all test rows ≡ true → p < length rows → row ≡ get_or rows p row → test row ≡ true
 all_at test [] p row all h is = absurd (omega arith)
-all_at test (r ∷ rows) zero row all h is = ap test is ∙ (both (test r) (list_all test rows) all).0
-all_at test (r ∷ rows) (suc p) row all h is = all_at test rows p row (both (test r) (list_all test rows) all).1 (omega arith) is
+all_at test (r ∷ rows) zero row all h is = ap test is ∙ (and_parts (test r) (list_all test rows) all).0
+all_at test (r ∷ rows) (suc p) row all h is = all_at test rows p row (and_parts (test r) (list_all test rows) all).1 (omega arith) is
 
 passed_stays : (condition : Option Equation) (row : Row) → is_passed condition row ≡ true → stays condition row ≡ true
 passed_stays condition row p = ap (λ r. not (is_ok_true r)) (passed condition row p)

@@ -1,5 +1,6 @@
 -- What is shown of rows is what is shown of those that a condition may choose.
 use Rattle.std.proofs.Common.{◌≡◌, ◌+◌, Bool, true, false, cond, not, ◌&&◌, true≢false, ℕ, List, [], ◌∷◌, ◌++◌, append-nil, take, drop, get_or, Option, None, Some, is_some, Result, Ok, Err, refl, sym, ap, ◌∙◌, arith}
+use Rattle.std.proofs.lemmas.Bool.{and_parts}
 use Rattle.std.proofs.lemmas.List.Sums.{sum_by-cons}
 use Rattle.std.proofs.lemmas.List.{take-append-drop, drop_more}
 use Rattle.std.proofs.lemmas.List.Elements.{filter-append}
@@ -19,7 +20,7 @@ use Rattle.keeper_rows.specs.declared.row.Row.{Row}
 use Rattle.keeper_rows.specs.declared.spans.Span.{Span}
 use Rattle.keeper_rows.specs.Spans.{Encloses, is_ok_false, is_passed, Spans}
 use Rattle.keeper_rows.specs.Chosen.{is_chosen, on_chosen, shown_values, row_shown, chosen_rows, chosen_count, shown_rows, is_ok_true, stays}
-use Rattle.keeper_rows.proofs.KeyLemmas.{both, neither}
+use Rattle.keeper_rows.proofs.KeyLemmas.{neither}
 
 -- g gathers what the steps give, one after another, and nothing of what a step gives where the test passes
 module _ {A B C : Type 0} (g : List B → C) (step : B → C → C) (gathers : (y : B) (ys : List B) → g (y ∷ ys) ≡ step y (g ys)) (f : A → Result B Refusal) (test : A → Bool) (nothing : B) (passes : (x : A) → test x ≡ true → f x ≡ Ok nothing) (skips : (c : C) → step nothing c ≡ c) where
@@ -41,7 +42,7 @@ module _ {A B C : Type 0} (g : List B → C) (step : B → C → C) (gathers : (
   behind : (before xs : List A) → list_all test before ≡ true → map_ok g (each f (before ++ xs)) ≡ map_ok g (each f xs)
   behind [] xs p = refl
   behind (x ∷ before) xs p =
-      let q = both (test x) (list_all test before) p in
+      let q = and_parts (test x) (list_all test before) p in
       one x (before ++ xs)
       ∙ ap (λ r. and_then r (λ y. map_ok (step y) (map_ok g (each f (before ++ xs))))) (passes x q.0)
       ∙ skipped (map_ok g (each f (before ++ xs)))
@@ -117,7 +118,7 @@ all_removed condition (row ∷ rows) none = ap (λ o. cond (stays o row) (row �
 passed_stay : (condition : Option Equation) (rows : List Row) → list_all (is_passed condition) rows ≡ true → filter (stays condition) rows ≡ rows
 passed_stay condition [] p = refl
 passed_stay condition (row ∷ rows) p =
-    let q = both (is_passed condition row) (list_all (is_passed condition) rows) p in
+    let q = and_parts (is_passed condition row) (list_all (is_passed condition) rows) p in
     ap (λ r. cond (not (is_ok_true r)) (row ∷ filter (stays condition) rows) (filter (stays condition) rows)) (passed condition row q.0) ∙ ap (λ l. row ∷ l) (passed_stay condition rows q.1)
 
 -- what is left of rows of which one alone may be chosen

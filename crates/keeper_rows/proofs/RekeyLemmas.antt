@@ -11,7 +11,7 @@ use Rattle.keeper_rows.specs.declared.spans.Span.{Span}
 use Rattle.keeper_rows.specs.Constraint.{keeps_key}
 use Rattle.keeper_rows.specs.Keys.{rowid_of_key, keys_at, HasKeys, Indexes, stay, Moves, changed_up_to}
 use Rattle.keeper_rows.specs.Spans.{replaced}
-use Rattle.keeper_rows.proofs.KeyLemmas.{same_key, equal_not_null, equal_self, not_true, neither, keys_sound, keys_apart}
+use Rattle.keeper_rows.proofs.KeyLemmas.{null_is, same_key, equal_not_null, equal_self, not_true, neither, keys_sound, keys_apart}
 use Rattle.keeper_rows.proofs.IndexLemmas.{keys_same, vacated_at, filled_at, place_within, indexed, keys_at_row, keys_at_left, keys_at_right}
 
 -- ---- keys that stay
@@ -19,12 +19,9 @@ use Rattle.keeper_rows.proofs.IndexLemmas.{keys_same, vacated_at, filled_at, pla
 pub stay_same : (key : Value) → stay key key ≡ key
 stay_same key =
     ⊎_elim
-    (λ null. cond-false (is_equal key key) key Null (not_true (is_equal key key) (λ holds. true≢false (sym null ∙ equal_not_null key key holds))) ∙ sym (null_key key null))
+    (λ null. cond-false (is_equal key key) key Null (not_true (is_equal key key) (λ holds. true≢false (sym null ∙ equal_not_null key key holds))) ∙ sym (null_is key null))
     (λ sound. cond-true (is_equal key key) key Null (equal_self key sound))
     (cases_Bool (is_null key))
-  where
-    null_key : (a : Value) → is_null a ≡ true → a ≡ Null
-    null_key a p = Rattle.keeper_rows.proofs.KeyLemmas.null_is a p
 
 pub stay_equal : (old new : Value) → new ≡ old → stay old new ≡ old
 stay_equal old new same = ap (stay old) same ∙ stay_same old

@@ -102,13 +102,6 @@ fn grown_index(alloc: Global, index: Option<KeyIndex>, rows: &[Row]) -> Option<K
     }
 }
 
-/// All places of rows.
-fn all_places(condition: &Option<Equation>, rows: &[Row]) -> Span
-    ensures { Spans condition.now result rows.now }
-{
-    every_place(rows)
-}
-
 /// The place of the row that a condition may choose, where it says what the key is, else all places.
 fn span_of(rows: &[Row], index: &KeyIndex, condition: &Option<Equation>) -> Span
     requires { HasKeys index.now (keys_at index.now.column rows.now) }
@@ -119,7 +112,7 @@ fn span_of(rows: &[Row], index: &KeyIndex, condition: &Option<Equation>) -> Span
     }
     match sum_of_constants(index.column, condition) {
         Some(key) => span_with_key(rows, index, &key),
-        None => all_places(condition, rows),
+        None => every_place(rows),
     }
 }
 
@@ -193,7 +186,7 @@ impl TableRows {
     {
         match &self.index {
             Some(index) => span_of(self.items.as_slice(), index, condition),
-            None => all_places(condition, self.items.as_slice()),
+            None => every_place(self.items.as_slice()),
         }
     }
 

@@ -1,5 +1,6 @@
 -- What an update makes of rows is what it makes of those that its condition may choose.
 use Rattle.std.proofs.Common.{◌≡◌, ◌+◌, Bool, true, cond, ℕ, length, List, [], ◌∷◌, ◌++◌, Option, None, Some, Result, Ok, Err, refl, sym, ap, subst, ◌∙◌, zero-add, add-zero, length-append, arith}
+use Rattle.std.proofs.lemmas.Bool.{and_parts}
 use Rattle.std.specs.List.{list_all}
 use Rattle.keeper_formulas.specs.declared.fail.Refusal.{Refusal}
 use Rattle.keeper_formulas.specs.declared.formulas.Equation.{Equation}
@@ -16,7 +17,6 @@ use Rattle.keeper_rows.specs.Chosen.{on_chosen}
 use Rattle.memory_keeper.specs.Tables.{renewal, renewed_row, renewed, all_renewed, all_updated}
 use Rattle.keeper_formulas.proofs.EachLemmas.{joined, each-append, map_ok-Ok, refuses_then}
 use Rattle.keeper_rows.proofs.NarrowLemmas.{passed}
-use Rattle.keeper_rows.proofs.KeyLemmas.{both}
 use Rattle.memory_keeper.proofs.RowLemmas.{length-each}
 
 passed_renewal : (condition : Option Equation) (sets : List Equation) (row : Row) → is_passed condition row ≡ true → renewal condition sets row ≡ Ok None
@@ -36,7 +36,7 @@ renewed_passed condition sets rows p =
     each_none : (rows : List Row) → list_all (is_passed condition) rows ≡ true → each (renewal condition sets) rows ≡ Ok (nones rows)
     each_none [] p = refl
     each_none (row ∷ rows) p =
-        let q = both (is_passed condition row) (list_all (is_passed condition) rows) p in
+        let q = and_parts (is_passed condition row) (list_all (is_passed condition) rows) p in
         ap (λ r. and_then r (λ y. map_ok (λ ys. y ∷ ys) (each (renewal condition sets) rows))) (passed_renewal condition sets row q.0)
         ∙ ap (map_ok (λ ys. None ∷ ys)) (each_none rows q.1)
 
