@@ -1,0 +1,1 @@
+// Batches, their results, and runs of batches.

@@ -1,0 +1,1 @@
+// The messages of a client and of the server.

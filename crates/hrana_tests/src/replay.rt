@@ -1,0 +1,1 @@
+// Scripts, played by the top call.

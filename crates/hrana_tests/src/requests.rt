@@ -1,0 +1,1 @@
+// What a stream is asked and replies, and cursor entries.

@@ -1,0 +1,1 @@
+// Pieces, classes, spans and bindings of SQL texts.
