@@ -10,6 +10,7 @@ use Rattle.hrana_value.specs.declared.failures.ReadFail.TheVariants.{Declined}
 use Rattle.hrana_value.specs.Declines.{rank_of, NoneStands, Reads}
 use Rattle.hrana_value.specs.Members.{whole_of, TextTree, Int32Tree}
 use Rattle.hrana_value.proofs.DeclineLemmas.{Reads-ok, Reads-declined}
+use Rattle.hrana_stmt.specs.declared.limits.TheConstants.{MAX_SQL_BYTES}
 use Rattle.hrana_stmt.specs.Tree.{SqlPartsStand, IsGiven}
 use Rattle.hrana_stmt.specs.Parts.{SqlPartsTree}
 use Rattle.hrana_stmt.specs.declared.statements.SqlRef.TheVariants.{Text, Id}
@@ -82,22 +83,22 @@ id_in_null id P absent here = subst (λ d. IsSomeAnd (whole_of d) P) absent here
 text_in_null : (sql : Data) (P : List ℕ → Type 0) → sql ≡ null → IsSomeAnd (as_str sql) P → ⊥
 text_in_null sql P absent here = subst (λ d. IsSomeAnd (as_str d) P) absent here
 
-text_no_range : (sql id : Data) (s : List ℕ) → TextTree s sql → id ≡ null → length s ≤ 65536 → SqlPartsStand sql id Range → ⊥
-text_no_range sql id s is absent fits (inl a) = let long : 65536 < length s = subst (λ o. IsSomeAnd o (λ r. 65536 < length r)) is a in absurd (omega arith)
+text_no_range : (sql id : Data) (s : List ℕ) → TextTree s sql → id ≡ null → length s ≤ MAX_SQL_BYTES → SqlPartsStand sql id Range → ⊥
+text_no_range sql id s is absent fits (inl a) = let long : MAX_SQL_BYTES < length s = subst (λ o. IsSomeAnd o (λ r. MAX_SQL_BYTES < length r)) is a in absurd (omega arith)
 text_no_range sql id s is absent fits (inr b) = id_in_null id (λ z. FitsSigned w32 z → ⊥) absent b
 
 pub text_given : (sql : Data) (s : List ℕ) → TextTree s sql → IsGiven sql
 text_given sql s is absent = let e : as_str null ≡ Some s = subst (λ d. TextTree s d) absent is in cc e
 
-pub sql_text_none : (sql id : Data) (s : List ℕ) → TextTree s sql → id ≡ null → length s ≤ 65536 → NoneStands (SqlPartsStand sql id)
+pub sql_text_none : (sql id : Data) (s : List ℕ) → TextTree s sql → id ≡ null → length s ≤ MAX_SQL_BYTES → NoneStands (SqlPartsStand sql id)
 sql_text_none sql id s is absent fits = none sql id (text_no_shape sql id s is absent) (alone_no_both sql id (text_given sql s is) absent) (text_no_range sql id s is absent fits)
 
-pub sql_text_read : (sql id : Data) (s : List ℕ) → TextTree s sql → id ≡ null → length s ≤ 65536 → Reads (λ r. SqlPartsTree r sql id) (SqlPartsStand sql id) (Ok (Text s))
+pub sql_text_read : (sql id : Data) (s : List ℕ) → TextTree s sql → id ≡ null → length s ≤ MAX_SQL_BYTES → Reads (λ r. SqlPartsTree r sql id) (SqlPartsStand sql id) (Ok (Text s))
 sql_text_read sql id s is absent fits = Reads-ok (Text s) (is, absent) (sql_text_none sql id s is absent fits)
 
-pub sql_text_long : (sql id : Data) (s : List ℕ) → TextTree s sql → id ≡ null → 65536 < length s → Reads (λ r. SqlPartsTree r sql id) (SqlPartsStand sql id) (Err (Declined Range))
+pub sql_text_long : (sql id : Data) (s : List ℕ) → TextTree s sql → id ≡ null → MAX_SQL_BYTES < length s → Reads (λ r. SqlPartsTree r sql id) (SqlPartsStand sql id) (Err (Declined Range))
 sql_text_long sql id s is absent long =
-    sql_range sql id (inl (subst (λ o. IsSomeAnd o (λ r. 65536 < length r)) (sym is) long)) (text_no_shape sql id s is absent) (alone_no_both sql id (text_given sql s is) absent)
+    sql_range sql id (inl (subst (λ o. IsSomeAnd o (λ r. MAX_SQL_BYTES < length r)) (sym is) long)) (text_no_shape sql id s is absent) (alone_no_both sql id (text_given sql s is) absent)
 
 -- ---- a number alone
 
@@ -113,7 +114,7 @@ pub id_given : (id : Data) (z : ℤ) → whole_of id ≡ Some z → IsGiven id
 id_given id z is absent = let e : whole_of null ≡ Some z = subst (λ d. whole_of d ≡ Some z) absent is in cc e
 
 id_no_range : (sql id : Data) (z : ℤ) → Int32Tree z id → sql ≡ null → SqlPartsStand sql id Range → ⊥
-id_no_range sql id z is absent (inl a) = text_in_null sql (λ s. 65536 < length s) absent a
+id_no_range sql id z is absent (inl a) = text_in_null sql (λ s. MAX_SQL_BYTES < length s) absent a
 id_no_range sql id z is absent (inr b) = subst (λ o. IsSomeAnd o (λ y. FitsSigned w32 y → ⊥)) is.is b is.fits
 
 pub sql_id_none : (sql id : Data) (z : ℤ) → Int32Tree z id → sql ≡ null → NoneStands (SqlPartsStand sql id)

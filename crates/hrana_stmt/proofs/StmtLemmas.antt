@@ -7,14 +7,16 @@ use Rattle.hrana_value.specs.declared.value.Value.{Value}
 use Rattle.hrana_value.specs.declared.failures.Decline.TheVariants.{Range}
 use Rattle.hrana_value.specs.Declines.{NoneStands, EitherStands, Only}
 use Rattle.hrana_value.specs.Members.{part_at, text_at, TextStands}
-use Rattle.hrana_value.specs.Tree.{ValueTree, ValueStands, OptionalValuesStand}
+use Rattle.hrana_value.specs.Tree.{ValueTree, ValueStands}
+use Rattle.hrana_value.specs.Trees.{OptionalArrayStands}
 use Rattle.hrana_value.proofs.TextLemmas.{one}
-use Rattle.hrana_value.proofs.TreeLemmas.{ValueTree-one, OptionalValuesTree-one, ValueTree-none}
+use Rattle.hrana_value.proofs.TreeLemmas.{ValueTree-one, ValueTree-none}
 use Rattle.hrana_value.proofs.ItemsLemmas.{OptionalArrayTree-one}
 use Rattle.hrana_value.proofs.ArrayLemmas.{OptionalArrayTree-none}
 use Rattle.hrana_value.proofs.PartLemmas.{TextTree-none}
 use Rattle.hrana_value.proofs.DeclineLemmas.{NoneStands-parts}
-use Rattle.hrana_stmt.specs.Tree.{SqlTree, SqlStands, IsWithinSqlLimit, IsObject, ObjectStands, NamedArgTree, NamedArgStands, OptionalNamedArgsStand, WantsRowsTree, WantsRowsStands, ArgumentsStand, StmtHeadStands, StmtStands, StmtTree, StmtFits, NoTreeIsTwoStatements, FittingStatementsAreRead, count_of}
+use Rattle.hrana_stmt.specs.declared.limits.TheConstants.{MAX_SQL_BYTES, MAX_ARGUMENTS}
+use Rattle.hrana_stmt.specs.Tree.{SqlTree, SqlStands, IsWithinSqlLimit, IsObject, ObjectStands, NamedArgTree, NamedArgStands, WantsRowsTree, WantsRowsStands, ArgumentsStand, StmtHeadStands, StmtStands, StmtTree, StmtFits, NoTreeIsTwoStatements, FittingStatementsAreRead, count_of}
 use Rattle.hrana_stmt.specs.declared.statements.SqlRef.{SqlRef}
 use Rattle.hrana_stmt.specs.declared.statements.SqlRef.TheVariants.{Text, Id}
 use Rattle.hrana_stmt.specs.declared.statements.NamedArg.{NamedArg}
@@ -51,7 +53,7 @@ stmt a b c d = record { sql = a; args = b; named = c; want_rows = d }
 pub StmtTree-one : NoTreeIsTwoStatements
 StmtTree-one t s r p q =
     let sql : s.sql ≡ r.sql = SqlTree-one t s.sql r.sql p.sql q.sql in
-    let args : s.args ≡ r.args = OptionalValuesTree-one _ s.args r.args p.args q.args in
+    let args : s.args ≡ r.args = OptionalArrayTree-one ValueTree ValueTree-one _ s.args r.args p.args q.args in
     let named : s.named ≡ r.named = OptionalArrayTree-one NamedArgTree NamedArgTree-one _ s.named r.named p.named q.named in
     let want_rows : s.want_rows ≡ r.want_rows = WantsRowsTree-one _ s.want_rows r.want_rows p.want_rows q.want_rows in
     ap (λ a. stmt a s.args s.named s.want_rows) sql ∙ ap (λ b. stmt r.sql b s.named s.want_rows) args
@@ -94,8 +96,8 @@ args_count s t p =
 arguments_none : (s : Stmt) (t : Data) → StmtTree s t → StmtFits s → NoneStands (ArgumentsStand (part_at (codes "args") t) (part_at (codes "named_args") t))
 arguments_none s t p fits =
     let args = part_at (codes "args") t in let named = part_at (codes "named_args") t in
-    NoneStands-parts (EitherStands (OptionalValuesStand args) (OptionalNamedArgsStand named)) (Only Range (256 < count_of args + count_of named))
-    (NoneStands-parts (OptionalValuesStand args) (OptionalNamedArgsStand named) (OptionalArrayTree-none ValueTree ValueStands ValueTree-none s.args args p.args)
+    NoneStands-parts (EitherStands (OptionalArrayStands ValueStands args) (OptionalArrayStands NamedArgStands named)) (Only Range (MAX_ARGUMENTS < count_of args + count_of named))
+    (NoneStands-parts (OptionalArrayStands ValueStands args) (OptionalArrayStands NamedArgStands named) (OptionalArrayTree-none ValueTree ValueStands ValueTree-none s.args args p.args)
     (OptionalArrayTree-none NamedArgTree NamedArgStands NamedArgTree-none s.named named p.named))
     (λ k here. let count = args_count s t p in let few = fits.args in let many = here.1 in absurd (omega arith))
 
@@ -106,14 +108,14 @@ stmt_none s t p fits =
 -- ---- a statement of a tree in which nothing stands breaks no limit
 
 pub sql_fits : (s : SqlRef) (t : Data) → SqlTree s t → NoneStands (SqlStands t) → IsWithinSqlLimit s
-sql_fits (Text s) t p none = elim (cases_lt 65536 (length s)) [
-  | inl long ↦ absurd (none Range (inl (subst (λ o. IsSomeAnd o (λ r. 65536 < length r)) (sym p.0) long)))
+sql_fits (Text s) t p none = elim (cases_lt MAX_SQL_BYTES (length s)) [
+  | inl long ↦ absurd (none Range (inl (subst (λ o. IsSomeAnd o (λ r. MAX_SQL_BYTES < length r)) (sym p.0) long)))
   | inr fits ↦ fits
 ]
 sql_fits (Id z) t p none = tt
 
-args_fit : (s : Stmt) (t : Data) → StmtTree s t → NoneStands (StmtStands t) → length s.args + length s.named ≤ 256
-args_fit s t p none = elim (cases_lt 256 (length s.args + length s.named)) [
+args_fit : (s : Stmt) (t : Data) → StmtTree s t → NoneStands (StmtStands t) → length s.args + length s.named ≤ MAX_ARGUMENTS
+args_fit s t p none = elim (cases_lt MAX_ARGUMENTS (length s.args + length s.named)) [
   | inl many ↦ absurd (none Range (inr (inr (refl, let count = args_count s t p in omega arith))))
   | inr few ↦ few
 ]

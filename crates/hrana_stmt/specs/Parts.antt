@@ -2,10 +2,11 @@
 use Rattle.std.specs.Prelude.{◌≡◌, Bool}
 use Rattle.serde_json.specs.Data.{Data, null}
 use Rattle.hrana_value.specs.Members.{TextTree, Int32Tree}
-use Rattle.hrana_value.specs.Tree.{OptionalValuesTree}
+use Rattle.hrana_value.specs.Tree.{ValueTree}
+use Rattle.hrana_value.specs.Trees.{OptionalArrayTree}
 use Rattle.hrana_value.specs.Declines.{EitherStands}
 use Rattle.hrana_value.specs.declared.failures.Decline.{Decline}
-use Rattle.hrana_stmt.specs.Tree.{SqlTree, SqlStands, ObjectStands, WantsRowsTree, WantsRowsStands, OptionalNamedArgsTree, ArgumentsStand}
+use Rattle.hrana_stmt.specs.Tree.{SqlTree, SqlStands, ObjectStands, WantsRowsTree, WantsRowsStands, NamedArgTree, ArgumentsStand}
 use Rattle.hrana_stmt.specs.declared.statements.Stmt.{Stmt}
 use Rattle.hrana_stmt.specs.declared.statements.SqlRef.{SqlRef}
 use Rattle.hrana_stmt.specs.declared.statements.SqlRef.TheVariants.{Text, Id}
@@ -22,7 +23,7 @@ HeadTree sql wanted t want_rows = SqlTree sql t × WantsRowsTree wanted want_row
 -- `StmtTree` of an object and its parts
 pub record StmtPartsTree (s : Stmt) (t args named want_rows : Data) : Type 0 where
   pub head : HeadTree s.sql s.want_rows t want_rows
-  pub arguments : OptionalValuesTree s.args args × OptionalNamedArgsTree s.named named
+  pub arguments : OptionalArrayTree ValueTree s.args args × OptionalArrayTree NamedArgTree s.named named
 
 abbrev pub HeadStands : Data → Data → Decline → Type 0
 HeadStands t want_rows = EitherStands (EitherStands (ObjectStands t) (SqlStands t)) (WantsRowsStands want_rows)

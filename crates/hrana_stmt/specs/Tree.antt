@@ -2,15 +2,16 @@
 -- be one.
 use Rattle.std.specs.Prelude.{◌≡◌, ◌⊎◌, ◌↔◌, ℕ, suc, ◌+◌, ◌≤◌, ◌<◌, Bool, true, List, length, None, codes, IsSomeAnd, FitsSigned}
 use Rattle.std.specs.Int.{w32}
-use Rattle.serde_json.specs.Data.{Data, null, boolean, number, string, array, object, Items, no_items, item}
+use Rattle.serde_json.specs.Data.{Data, null, boolean, array, object, Items, no_items, item}
 use Rattle.serde_json.specs.Find.{as_str}
 use Rattle.hrana_value.specs.declared.failures.Decline.{Decline}
-use Rattle.hrana_value.specs.declared.failures.Decline.TheVariants.{Unknown, Describe, Shape, BothSql, BadStep, Range, Float}
+use Rattle.hrana_value.specs.declared.failures.Decline.TheVariants.{Shape, BothSql, Range}
 use Rattle.hrana_value.specs.declared.value.Value.{Value}
 use Rattle.hrana_value.specs.Declines.{NoneStands, EitherStands, Only}
 use Rattle.hrana_value.specs.Members.{HasText, HasInt32, IsAbsent, part_at, whole_of, TextTree, TextStands, Uint64Tree, Uint64Stands}
-use Rattle.hrana_value.specs.Tree.{ValueTree, ValueStands, OptionalValuesTree, OptionalValuesStand, Int64TextTree, Int64TextStands}
-use Rattle.hrana_value.specs.Trees.{ItemsTree, ArrayTree, ArrayStands, OptionalArrayTree, OptionalArrayStands, OptionalTree, OptionalStands}
+use Rattle.hrana_value.specs.Tree.{ValueTree, ValueStands, Int64TextTree, Int64TextStands}
+use Rattle.hrana_value.specs.Trees.{ArrayTree, ArrayStands, OptionalArrayTree, OptionalArrayStands, OptionalTree, OptionalStands}
+use Rattle.hrana_stmt.specs.declared.limits.TheConstants.{MAX_SQL_BYTES, MAX_ARGUMENTS}
 use Rattle.hrana_stmt.specs.declared.statements.SqlRef.{SqlRef}
 use Rattle.hrana_stmt.specs.declared.statements.SqlRef.TheVariants.{Text, Id}
 use Rattle.hrana_stmt.specs.declared.statements.NamedArg.{NamedArg}
@@ -23,11 +24,7 @@ use Rattle.hrana_stmt.specs.declared.errors.WireError.{WireError}
 
 abbrev pub IsObject : Data → Type 0
 IsObject (object ms) = Unit {0}
-IsObject null = ⊥
-IsObject (boolean b) = ⊥
-IsObject (number n) = ⊥
-IsObject (string s) = ⊥
-IsObject (array ds) = ⊥
+IsObject other = ⊥
 
 abbrev pub ObjectStands : Data → Decline → Type 0
 ObjectStands t = Only Shape (IsObject t → ⊥)
@@ -41,7 +38,7 @@ SqlTree (Id z) t = HasInt32 t (codes "sql_id") z × IsAbsent t (codes "sql")
 
 -- an SQL text is within its limit
 abbrev pub IsWithinSqlLimit : SqlRef → Type 0
-IsWithinSqlLimit (Text s) = length s ≤ 65536
+IsWithinSqlLimit (Text s) = length s ≤ MAX_SQL_BYTES
 IsWithinSqlLimit (Id z) = Unit {0}
 
 abbrev pub IsGiven : Data → Type 0
@@ -51,11 +48,8 @@ IsGiven part = part ≡ null → ⊥
 abbrev pub SqlPartsStand : Data → Data → Decline → Type 0
 SqlPartsStand sql id Shape = (IsGiven sql × (as_str sql ≡ None)) ⊎ (IsGiven id × (whole_of id ≡ None))
 SqlPartsStand sql id BothSql = ((sql ≡ null) × (id ≡ null)) ⊎ (IsGiven sql × IsGiven id)
-SqlPartsStand sql id Range = IsSomeAnd (as_str sql) (λ s. 65536 < length s) ⊎ IsSomeAnd (whole_of id) (λ z. FitsSigned w32 z → ⊥)
-SqlPartsStand sql id Unknown = ⊥
-SqlPartsStand sql id Describe = ⊥
-SqlPartsStand sql id BadStep = ⊥
-SqlPartsStand sql id Float = ⊥
+SqlPartsStand sql id Range = IsSomeAnd (as_str sql) (λ s. MAX_SQL_BYTES < length s) ⊎ IsSomeAnd (whole_of id) (λ z. FitsSigned w32 z → ⊥)
+SqlPartsStand sql id kind = ⊥
 
 abbrev pub SqlStands : Data → Decline → Type 0
 SqlStands t = SqlPartsStand (part_at (codes "sql") t) (part_at (codes "sql_id") t)
@@ -69,16 +63,6 @@ pub record NamedArgTree (a : NamedArg) (t : Data) : Type 0 where
 abbrev pub NamedArgStands : Data → Decline → Type 0
 NamedArgStands t = EitherStands (TextStands (part_at (codes "name") t)) (ValueStands (part_at (codes "value") t))
 
-abbrev pub NamedArgsTree : List NamedArg → Items → Type 0
-NamedArgsTree args ds = ItemsTree NamedArgTree args ds
-
--- none where the part is missing or null
-abbrev pub OptionalNamedArgsTree : List NamedArg → Data → Type 0
-OptionalNamedArgsTree args t = OptionalArrayTree NamedArgTree args t
-
-abbrev pub OptionalNamedArgsStand : Data → Decline → Type 0
-OptionalNamedArgsStand t = OptionalArrayStands NamedArgStands t
-
 abbrev pub items_count : Items → ℕ
 items_count no_items = 0
 items_count (item d ds) = suc (items_count ds)
@@ -86,15 +70,11 @@ items_count (item d ds) = suc (items_count ds)
 -- the number of items, where the part is an array
 abbrev pub count_of : Data → ℕ
 count_of (array ds) = items_count ds
-count_of null = 0
-count_of (boolean b) = 0
-count_of (number n) = 0
-count_of (string s) = 0
-count_of (object ms) = 0
+count_of other = 0
 
--- what stands in the arguments of both kinds, of which there are at most 256 together
+-- what stands in the arguments of both kinds, whose number has a limit
 abbrev pub ArgumentsStand : Data → Data → Decline → Type 0
-ArgumentsStand args named = EitherStands (EitherStands (OptionalValuesStand args) (OptionalNamedArgsStand named)) (Only Range (256 < count_of args + count_of named))
+ArgumentsStand args named = EitherStands (EitherStands (OptionalArrayStands ValueStands args) (OptionalArrayStands NamedArgStands named)) (Only Range (MAX_ARGUMENTS < count_of args + count_of named))
 
 -- ---- statements
 
@@ -102,24 +82,21 @@ ArgumentsStand args named = EitherStands (EitherStands (OptionalValuesStand args
 abbrev pub WantsRowsTree : Bool → Data → Type 0
 WantsRowsTree wanted null = wanted ≡ true
 WantsRowsTree wanted (boolean b) = wanted ≡ b
-WantsRowsTree wanted (number n) = ⊥
-WantsRowsTree wanted (string s) = ⊥
-WantsRowsTree wanted (array ds) = ⊥
-WantsRowsTree wanted (object ms) = ⊥
+WantsRowsTree wanted other = ⊥
 
 abbrev pub WantsRowsStands : Data → Decline → Type 0
 WantsRowsStands t = Only Shape ((wanted : Bool) → WantsRowsTree wanted t → ⊥)
 
 pub record StmtTree (s : Stmt) (t : Data) : Type 0 where
   pub sql : SqlTree s.sql t
-  pub args : OptionalValuesTree s.args (part_at (codes "args") t)
-  pub named : OptionalNamedArgsTree s.named (part_at (codes "named_args") t)
+  pub args : OptionalArrayTree ValueTree s.args (part_at (codes "args") t)
+  pub named : OptionalArrayTree NamedArgTree s.named (part_at (codes "named_args") t)
   pub want_rows : WantsRowsTree s.want_rows (part_at (codes "want_rows") t)
 
 -- the statement breaks no limit
 pub record StmtFits (s : Stmt) : Type 0 where
   pub sql : IsWithinSqlLimit s.sql
-  pub args : length s.args + length s.named ≤ 256
+  pub args : length s.args + length s.named ≤ MAX_ARGUMENTS
 
 abbrev pub StmtHeadStands : Data → Decline → Type 0
 StmtHeadStands t = EitherStands (EitherStands (ObjectStands t) (SqlStands t)) (WantsRowsStands (part_at (codes "want_rows") t))

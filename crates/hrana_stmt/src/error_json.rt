@@ -6,7 +6,7 @@ ghost use Rattle.std.specs.Prelude.{◌≡◌, IfOk};
 ghost use Rattle.hrana_stmt.specs.Written.{optional_text, error_data};
 
 use crate::WireError;
-use hrana_value::{NoMemory, ReadFail, Txt, both, members, optional_text_of_json, text_of_json};
+use hrana_value::{NoMemory, ReadFail, Txt, both_readings, members, option_of_json, text_of_json};
 use serde_json::{Map, Value as Json, json, put};
 use std::alloc::Global;
 
@@ -14,11 +14,9 @@ use std::alloc::Global;
 pub fn error_of_json(alloc: Global, json: &Json) -> Result<WireError, ReadFail>
     ensures { Reads (λ e. WireErrorTree e (view json.now)) (WireErrorStands (view json.now)) result }
 {
-    members!(json; message = "message": text_of_json(alloc), code = "code": optional_text_of_json(alloc));
-    match both(message, code) {
-        Ok((message, code)) => Ok(WireError { message, code }),
-        Err(fail) => Err(fail),
-    }
+    members!(json; message = "message": text_of_json(alloc), code = "code": option_of_json(alloc));
+    let (message, code) = both_readings(message, code)?;
+    Ok(WireError { message, code })
 }
 
 /// Writes a string, and null for none.

@@ -11,10 +11,10 @@ ghost use Rattle.hrana_value.specs.Tree.{Int64TextTree};
 ghost use Rattle.hrana_stmt.specs.Written.{col_data, cols_data, row_data, rows_data, rowid_data, result_object, result_data};
 
 use crate::error_json::optional_text_to_json;
-use crate::{Col, Cols, Rows, StmtResult, object_of_json};
+use crate::{Col, StmtResult, object_of_json};
 use hrana_value::{
-    Decline, NoMemory, ReadFail, Values, both, members, optional_int64_text_of_json,
-    optional_text_of_json, uint64_of_json, values_of_json, values_to_json, with_item,
+    JsonForm, NoMemory, ReadFail, Values, both_readings, list_of_json, members, option_of_json,
+    optional_int64_text_of_json, uint64_of_json, values_to_json,
 };
 use serde_json::{Map, Value as Json, put};
 use std::alloc::Global;
@@ -22,65 +22,18 @@ use std::alloc::Global;
 fn col_of_json(alloc: Global, json: &Json) -> Result<Col, ReadFail>
     ensures { Reads (λ c. ColTree c (view json.now)) (ColStands (view json.now)) result }
 {
-    members!(json; name = "name": optional_text_of_json(alloc));
-    match both(object_of_json(json), name) {
-        Ok((_, name)) => Ok(Col { name }),
-        Err(fail) => Err(fail),
-    }
+    members!(json; name = "name": option_of_json(alloc));
+    let ((), name) = both_readings(object_of_json(json), name)?;
+    Ok(Col { name })
 }
 
-fn cols_of_items(alloc: Global, items: &[Json]) -> Result<Cols, ReadFail>
-    ensures { Reads (λ cols. ItemsTree ColTree cols (items_view items.now)) (ItemsStand ColStands (items_view items.now)) result }
-{
-    let mut cols = Ok(Vec::new(alloc));
-    for item in items {
-        cols = with_item(cols, col_of_json(alloc, item));
-    }
-    match cols {
-        Ok(cols) => Ok(Cols::from_vec(cols)),
-        Err(fail) => Err(fail),
-    }
-}
+impl JsonForm for Col {
+    ghost tree = { ColTree };
 
-/// Reads an array of columns.
-pub fn cols_of_json(alloc: Global, json: &Json) -> Result<Cols, ReadFail>
-    ensures { Reads (λ cols. ArrayTree ColTree cols (view json.now)) (ArrayStands ColStands (view json.now)) result }
-{
-    match json {
-        Json::Array(items) => cols_of_items(alloc, items.as_slice()),
-        _ => Err(ReadFail::Declined(Decline::Shape)),
-    }
-}
+    ghost stands = { ColStands };
 
-/// Reads a row, which is an array of values.
-pub fn row_of_json(alloc: Global, json: &Json) -> Result<Values, ReadFail>
-    ensures { Reads (λ row. RowTree row (view json.now)) (RowStands (view json.now)) result }
-{
-    match json {
-        Json::Array(items) => values_of_json(alloc, items.as_slice()),
-        _ => Err(ReadFail::Declined(Decline::Shape)),
-    }
-}
-
-fn rows_of_items(alloc: Global, items: &[Json]) -> Result<Rows, ReadFail>
-    ensures { Reads (λ rows. ItemsTree RowTree rows (items_view items.now)) (ItemsStand RowStands (items_view items.now)) result }
-{
-    let mut rows = Ok(Vec::new(alloc));
-    for item in items {
-        rows = with_item(rows, row_of_json(alloc, item));
-    }
-    match rows {
-        Ok(rows) => Ok(Rows::from_vec(rows)),
-        Err(fail) => Err(fail),
-    }
-}
-
-fn rows_of_json(alloc: Global, json: &Json) -> Result<Rows, ReadFail>
-    ensures { Reads (λ rows. ArrayTree RowTree rows (view json.now)) (ArrayStands RowStands (view json.now)) result }
-{
-    match json {
-        Json::Array(items) => rows_of_items(alloc, items.as_slice()),
-        _ => Err(ReadFail::Declined(Decline::Shape)),
+    fn of_json(alloc: Global, json: &Json) -> Result<Col, ReadFail> {
+        col_of_json(alloc, json)
     }
 }
 
@@ -89,13 +42,13 @@ pub fn result_of_json(alloc: Global, json: &Json) -> Result<StmtResult, ReadFail
     ensures { Reads (λ r. StmtResultTree r (view json.now)) (StmtResultStands (view json.now)) result }
 {
     members!(json;
-        cols = "cols": cols_of_json(alloc),
-        rows = "rows": rows_of_json(alloc),
+        cols = "cols": list_of_json(alloc),
+        rows = "rows": list_of_json(alloc),
         affected = "affected_row_count": uint64_of_json(),
         last_rowid = "last_insert_rowid": optional_int64_text_of_json());
-    let lists = both(cols, rows);
-    let numbers = both(affected, last_rowid);
-    match both(lists, numbers) {
+    let lists = both_readings(cols, rows);
+    let numbers = both_readings(affected, last_rowid);
+    match both_readings(lists, numbers) {
         Ok((lists, numbers)) => Ok(StmtResult {
             cols: lists.0,
             rows: lists.1,

@@ -6,13 +6,10 @@ ghost use Rattle.hrana_value.specs.Declines.{Reads};
 ghost use Rattle.hrana_stmt.specs.Tree.{SqlTree, SqlStands, SqlPartsStand, IsGiven};
 ghost use Rattle.hrana_stmt.specs.Parts.{SqlPartsTree};
 
-use crate::SqlRef;
-use hrana_value::{Decline, ReadFail, Txt, int32, member};
+use crate::{MAX_SQL_BYTES, SqlRef};
+use hrana_value::{Decline, ReadFail, Txt, int32, member_or_null};
 use serde_json::Value as Json;
 use std::alloc::Global;
-
-/// The most bytes of an SQL text.
-pub const SQL_LIMIT: usize = 65536;
 
 fn sql_text_of_json(alloc: Global, sql: &Json, id: &Json) -> Result<SqlRef, ReadFail>
     requires given { IsGiven (view sql.now) }
@@ -22,13 +19,10 @@ fn sql_text_of_json(alloc: Global, sql: &Json, id: &Json) -> Result<SqlRef, Read
     let Some(text) = sql.as_str() else {
         return Err(ReadFail::Declined(Decline::Shape));
     };
-    if text.len() > SQL_LIMIT {
+    if text.len() > MAX_SQL_BYTES {
         return Err(ReadFail::Declined(Decline::Range));
     }
-    match Txt::new(alloc, text) {
-        Ok(text) => Ok(SqlRef::Text(text)),
-        Err(_) => Err(ReadFail::NoMemory),
-    }
+    Ok(SqlRef::Text(Txt::new(alloc, text)?))
 }
 
 fn sql_id_of_json(sql: &Json, id: &Json) -> Result<SqlRef, ReadFail>
@@ -36,10 +30,7 @@ fn sql_id_of_json(sql: &Json, id: &Json) -> Result<SqlRef, ReadFail>
     requires given { IsGiven (view id.now) }
     ensures { Reads (λ s. SqlPartsTree s (view sql.now) (view id.now)) (SqlPartsStand (view sql.now) (view id.now)) result }
 {
-    match int32(id) {
-        Ok(number) => Ok(SqlRef::Id(number)),
-        Err(kind) => Err(ReadFail::Declined(kind)),
-    }
+    Ok(SqlRef::Id(int32(id)?))
 }
 
 // Both parts are given, which is a refusal: the first kind that stands.
@@ -80,7 +71,7 @@ pub fn sql_of_json(alloc: Global, json: &Json) -> Result<SqlRef, ReadFail>
     let null = Json::Null;
     sql_of_parts(
         alloc,
-        member(json, "sql", &null),
-        member(json, "sql_id", &null),
+        member_or_null(json, "sql", &null),
+        member_or_null(json, "sql_id", &null),
     )
 }

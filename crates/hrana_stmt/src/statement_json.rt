@@ -9,7 +9,7 @@ ghost use Rattle.hrana_stmt.specs.Parts.{HeadTree, HeadStands, StmtPartsTree, St
 
 use crate::arguments::{arguments_of_json, named_args_to_json};
 use crate::{SqlRef, Stmt, sql_of_json};
-use hrana_value::{Decline, NoMemory, ReadFail, both, member, values_to_json};
+use hrana_value::{Decline, NoMemory, ReadFail, both_readings, member_or_null, values_to_json};
 use serde_json::{Map, Value as Json, json, put};
 use std::alloc::Global;
 
@@ -39,16 +39,14 @@ pub fn object_of_json(json: &Json) -> Result<(), ReadFail>
 fn sql_of_object(alloc: Global, json: &Json) -> Result<SqlRef, ReadFail>
     ensures { Reads (λ s. SqlTree s (view json.now)) (EitherStands (ObjectStands (view json.now)) (SqlStands (view json.now))) result }
 {
-    match both(object_of_json(json), sql_of_json(alloc, json)) {
-        Ok((_, sql)) => Ok(sql),
-        Err(fail) => Err(fail),
-    }
+    let ((), sql) = both_readings(object_of_json(json), sql_of_json(alloc, json))?;
+    Ok(sql)
 }
 
 fn head_of_json(alloc: Global, json: &Json, want_rows: &Json) -> Result<(SqlRef, bool), ReadFail>
     ensures { Reads (λ head. HeadTree head.0 head.1 (view json.now) (view want_rows.now)) (HeadStands (view json.now) (view want_rows.now)) result }
 {
-    both(sql_of_object(alloc, json), want_rows_of_json(want_rows))
+    both_readings(sql_of_object(alloc, json), want_rows_of_json(want_rows))
 }
 
 fn stmt_of_parts(
@@ -61,7 +59,7 @@ fn stmt_of_parts(
     ensures { Reads (λ s. StmtPartsTree s (view json.now) (view args.now) (view named.now) (view want_rows.now)) (StmtPartsStand (view json.now) (view args.now) (view named.now) (view want_rows.now)) result }
 {
     let head = head_of_json(alloc, json, want_rows);
-    match both(head, arguments_of_json(alloc, args, named)) {
+    match both_readings(head, arguments_of_json(alloc, args, named)) {
         Ok((head, arguments)) => Ok(Stmt {
             sql: head.0,
             args: arguments.0,
@@ -81,9 +79,9 @@ pub fn stmt_of_json(alloc: Global, json: &Json) -> Result<Stmt, ReadFail>
     stmt_of_parts(
         alloc,
         json,
-        member(json, "args", &null),
-        member(json, "named_args", &null),
-        member(json, "want_rows", &null),
+        member_or_null(json, "args", &null),
+        member_or_null(json, "named_args", &null),
+        member_or_null(json, "want_rows", &null),
     )
 }
 
@@ -171,140 +169,3 @@ pub fn no_tree_is_two_statements()
 pub fn fitting_statements_are_read()
     ensures { FittingStatementsAreRead }
 {}
-
-#[cfg(test)]
-mod tests {
-    use super::*;
-    use crate::{
-        Code, NamedArg, NamedArgs, WireError, error_of_json, error_to_json, result_of_json,
-        result_to_json, wire_error,
-    };
-    use hrana_value::{Txt, Value, Values};
-
-    fn read(alloc: Global, text: &str) -> Result<Stmt, ReadFail> {
-        match Json::from_str(alloc, text) {
-            Ok(json) => stmt_of_json(alloc, &json),
-            Err(_) => Err(ReadFail::NoMemory),
-        }
-    }
-
-    #[test]
-    fn declines_come_in_order(rt: HostRuntime) {
-        let cases = [
-            ("5", Decline::Shape),
-            ("{}", Decline::BothSql),
-            (r#"{"sql":5,"sql_id":9999999999}"#, Decline::Shape),
-            (r#"{"sql":"x","sql_id":9999999999}"#, Decline::BothSql),
-            (r#"{"sql_id":9999999999}"#, Decline::Range),
-            (r#"{"sql_id":-0}"#, Decline::Shape),
-            (r#"{"sql":"x","want_rows":0}"#, Decline::Shape),
-            (r#"{"sql":"x","args":{}}"#, Decline::Shape),
-            (r#"{"sql":"x","args":[{"type":"float"}]}"#, Decline::Float),
-            (r#"{"args":[{"type":"float"}]}"#, Decline::BothSql),
-            (
-                r#"{"sql":"x","args":[{"type":"float"},{"type":"integer","value":"9223372036854775808"}]}"#,
-                Decline::Range,
-            ),
-            (
-                r#"{"sql":"x","args":[{"type":"float"}],"named_args":[{"name":"a"}]}"#,
-                Decline::Shape,
-            ),
-        ];
-        for (text, want) in cases {
-            match read(rt.alloc(), text) {
-                Ok(_) => assert!(rt; false, "at {text}"),
-                Err(fail) => assert_eq!(rt; fail, ReadFail::Declined(want), "at {text}"),
-            }
-        }
-    }
-
-    #[test]
-    fn statements_are_written_as_they_were_read(rt: HostRuntime) {
-        let cases = [
-            (
-                r#"{"sql":"SELECT 1","args":null,"want_rows":true}"#,
-                r#"{"sql":"SELECT 1"}"#,
-            ),
-            (
-                r#"{"x":1,"sql_id":-3,"want_rows":false}"#,
-                r#"{"sql_id":-3,"want_rows":false}"#,
-            ),
-            (
-                r#"{"sql":"x","named_args":[{"name":"a","value":{"type":"null"}}],"args":[{"type":"integer","value":"+5"}]}"#,
-                r#"{"args":[{"type":"integer","value":"5"}],"named_args":[{"name":"a","value":{"type":"null"}}],"sql":"x"}"#,
-            ),
-        ];
-        let alloc = rt.alloc();
-        for (text, want) in cases {
-            match read(alloc, text) {
-                Ok(stmt) => {
-                    let json = stmt_to_json(alloc, &stmt).expect(&rt, "there is memory");
-                    let written = json.to_string(alloc).expect(&rt, "there is memory");
-                    assert_eq!(rt; written.as_str(), want, "at {text}");
-                }
-                Err(_) => assert!(rt; false, "at {text}"),
-            }
-        }
-    }
-
-    #[test]
-    fn results_are_written_as_they_were_read(rt: HostRuntime) {
-        let alloc = rt.alloc();
-        let text =
-            r#"{"affected_row_count":0,"cols":[{"name":"a"},{"name":null}],"last_insert_rowid":"7","rows":[[{"type":"integer","value":"5"}],[]]}"#;
-        let json = Json::from_str(alloc, text).expect(&rt, "it is JSON");
-        match result_of_json(alloc, &json) {
-            Ok(read) => {
-                let json = result_to_json(alloc, &read).expect(&rt, "there is memory");
-                let written = json.to_string(alloc).expect(&rt, "there is memory");
-                assert_eq!(rt; written.as_str(), text);
-            }
-            Err(_) => assert!(rt; false),
-        }
-    }
-
-    #[test]
-    fn an_error_has_its_code_and_message(rt: HostRuntime) {
-        let alloc = rt.alloc();
-        let error = wire_error(alloc, Code::BadType).expect(&rt, "there is memory");
-        let json = error_to_json(alloc, &error).expect(&rt, "there is memory");
-        let written = json.to_string(alloc).expect(&rt, "there is memory");
-        assert_eq!(rt;
-            written.as_str(),
-            r#"{"code":"TYPE","message":"operand is not an integer"}"#
-        );
-        let read: Result<WireError, ReadFail> = error_of_json(alloc, &json);
-        assert!(rt; read.is_ok());
-    }
-
-    #[test]
-    fn at_most_256_arguments_are_read(rt: HostRuntime) {
-        let alloc = rt.alloc();
-        let mut args = Values::new(alloc);
-        for _ in 0..255 {
-            args.push(Value::Null).expect(&rt, "there is memory");
-        }
-        let mut named = NamedArgs::new(alloc);
-        let name = Txt::new(alloc, "a").expect(&rt, "there is memory");
-        let arg = NamedArg {
-            name,
-            value: Value::Null,
-        };
-        named.push(arg).expect(&rt, "there is memory");
-        let sql = SqlRef::Text(Txt::new(alloc, "x").expect(&rt, "there is memory"));
-        let mut stmt = Stmt {
-            sql,
-            args,
-            named,
-            want_rows: true,
-        };
-        let json = stmt_to_json(alloc, &stmt).expect(&rt, "there is memory");
-        assert!(rt; stmt_of_json(alloc, &json).is_ok());
-        stmt.args.push(Value::Null).expect(&rt, "there is memory");
-        let json = stmt_to_json(alloc, &stmt).expect(&rt, "there is memory");
-        match stmt_of_json(alloc, &json) {
-            Ok(_) => assert!(rt; false),
-            Err(fail) => assert_eq!(rt; fail, ReadFail::Declined(Decline::Range)),
-        }
-    }
-}

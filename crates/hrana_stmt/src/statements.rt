@@ -1,8 +1,4 @@
-ghost use Rattle.std.specs.Prelude.{◌≡◌, [], ◌∷◌, ◌++◌, OnOk, OnErr};
-
-use hrana_value::{NoMemory, Txt, Value, Values};
-use std::alloc::Global;
-use std::marker::Model;
+use hrana_value::{List, Txt, Value, Values};
 
 /// What a statement runs: its text, or the number of a stored text.
 #[derive(Debug, Drop)]
@@ -18,54 +14,8 @@ pub struct NamedArg {
     pub value: Value,
 }
 
-/// A list of named arguments. It keeps the allocator that `new` takes.
-#[derive(Debug, Drop)]
-pub struct NamedArgs {
-    items: Vec<NamedArg>,
-}
-
-impl Model for NamedArgs {
-    ghost use Rattle.std.specs.Prelude.{List};
-    ghost use Rattle.hrana_stmt.specs.declared.statements.NamedArg.{NamedArg};
-
-    ghost Value = { List NamedArg };
-
-    ghost view = { λ args. args.items.items };
-}
-
-impl NamedArgs {
-    pub fn new(alloc: Global) -> NamedArgs
-        ensures { result ≡ [] }
-    {
-        NamedArgs {
-            items: Vec::new(alloc),
-        }
-    }
-
-    /// The arguments themselves, with no copy.
-    pub fn from_vec(items: Vec<NamedArg>) -> NamedArgs
-        ensures { result ≡ items.items }
-    {
-        NamedArgs { items }
-    }
-
-    /// Adds an argument at the end. A refused argument is dropped.
-    pub fn push(&mut self, arg: NamedArg) -> Result<(), NoMemory>
-        ensures ok { OnOk result (self.new ≡ self.old ++ arg ∷ []) }
-        ensures err { OnErr result (self.new ≡ self.old) }
-    {
-        match self.items.push(arg) {
-            Ok(()) => Ok(()),
-            Err(_) => Err(NoMemory),
-        }
-    }
-
-    pub fn as_slice(&self) -> &[NamedArg]
-        ensures { result.now ≡ self.now }
-    {
-        self.items.as_slice()
-    }
-}
+/// A list of named arguments.
+pub type NamedArgs = List<NamedArg>;
 
 /// A statement with its arguments.
 #[derive(Debug, Drop)]

@@ -5,12 +5,11 @@ use Rattle.std.specs.Str.Parse.{signed_digits_value}
 use Rattle.serde_json.specs.Data.{Data}
 use Rattle.hrana_value.proofs.TextLemmas.{one, apart}
 use Rattle.hrana_value.proofs.Base64Lemmas.{SpellsBytes-one}
-use Rattle.hrana_value.proofs.ItemsLemmas.{OptionalArrayTree-one}
 use Rattle.hrana_value.proofs.DeclineLemmas.{Reads-ok, Reads-declined}
 use Rattle.hrana_value.specs.Base64.{SpellsBytes}
 use Rattle.hrana_value.specs.Members.{HasText, text_at}
 use Rattle.hrana_value.specs.Declines.{rank_of, IsFirst, Reads}
-use Rattle.hrana_value.specs.Tree.{ValueTree, OptionalValuesTree, NoTreeIsTwoValues, NoValueIsDeclined, ValueShaped, null_shaped, integer_shaped, float_shaped, text_shaped, blob_shaped, IntegerTooLarge, ValueStands, IsIntegerText, FitsI64}
+use Rattle.hrana_value.specs.Tree.{ValueTree, NoTreeIsTwoValues, NoValueIsDeclined, ValueShaped, null_shaped, integer_shaped, float_shaped, text_shaped, blob_shaped, IntegerTooLarge, ValueStands, IsIntegerText, FitsI64}
 use Rattle.hrana_value.specs.declared.failures.Decline.{Decline}
 use Rattle.hrana_value.specs.declared.failures.Decline.TheVariants.{Unknown, Describe, Shape, BothSql, BadStep, Range, Float}
 use Rattle.hrana_value.specs.declared.failures.ReadFail.TheVariants.{Declined}
@@ -40,9 +39,6 @@ ValueTree-one t (Blob b) (Text s) p q = absurd (apart _ _ _ refl p.0 q.0)
 ValueTree-one t (Blob b) (Blob a) p q =
     let same : p.1.0 ≡ q.1.0 = one _ _ _ p.1.1 q.1.1 in
     ap Blob (SpellsBytes-one _ _ _ (subst (λ s. SpellsBytes s b) same p.1.2) q.1.2)
-
-pub OptionalValuesTree-one : (d : Data) (vs ws : List Value) → OptionalValuesTree vs d → OptionalValuesTree ws d → vs ≡ ws
-OptionalValuesTree-one d vs ws p q = OptionalArrayTree-one ValueTree ValueTree-one d vs ws p q
 
 -- ---- nothing is declined in the form of a value
 

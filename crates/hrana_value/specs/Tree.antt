@@ -2,12 +2,11 @@
 use Rattle.std.specs.Prelude.{◌≡◌, ℕ, ℤ, List, Ok, codes, ⊤, FitsSigned}
 use Rattle.std.specs.Int.{w64}
 use Rattle.std.specs.Str.Parse.{ParsesSigned, IsNumeral, without_leading_sign, signed_digits_value}
-use Rattle.serde_json.specs.Data.{Data, Items}
+use Rattle.serde_json.specs.Data.{Data}
 use Rattle.hrana_value.specs.Members.{HasText, TextTree}
 use Rattle.hrana_value.specs.Base64.{SpellsBytes}
-use Rattle.hrana_value.specs.Trees.{ItemsTree, ItemsStand, OptionalArrayTree, OptionalArrayStands}
 use Rattle.hrana_value.specs.declared.failures.Decline.{Decline}
-use Rattle.hrana_value.specs.declared.failures.Decline.TheVariants.{Unknown, Describe, Shape, BothSql, BadStep, Range, Float}
+use Rattle.hrana_value.specs.declared.failures.Decline.TheVariants.{Shape, Range, Float}
 use Rattle.hrana_value.specs.declared.value.Value.{Value}
 use Rattle.hrana_value.specs.declared.value.Value.TheVariants.{Null, Integer, Text, Blob}
 
@@ -32,11 +31,7 @@ Int64TextTree z t = (s : List ℕ) × TextTree s t × SpellsI64 s z
 abbrev pub Int64TextStands : Data → Decline → Type 0
 Int64TextStands t Shape = (s : List ℕ) → TextTree s t → IsIntegerText s → ⊥
 Int64TextStands t Range = (s : List ℕ) × TextTree s t × IsIntegerText s × (FitsI64 s → ⊥)
-Int64TextStands t Unknown = ⊥
-Int64TextStands t Describe = ⊥
-Int64TextStands t BothSql = ⊥
-Int64TextStands t BadStep = ⊥
-Int64TextStands t Float = ⊥
+Int64TextStands t kind = ⊥
 
 -- ---- values
 
@@ -66,25 +61,7 @@ abbrev pub ValueStands : Data → Decline → Type 0
 ValueStands t Shape = ValueShaped t → ⊥
 ValueStands t Range = IntegerTooLarge t
 ValueStands t Float = HasText t (codes "type") (codes "float")
-ValueStands t Unknown = ⊥
-ValueStands t Describe = ⊥
-ValueStands t BothSql = ⊥
-ValueStands t BadStep = ⊥
-
--- ---- lists of values
-
-abbrev pub ValuesTree : List Value → Items → Type 0
-ValuesTree vs ds = ItemsTree ValueTree vs ds
-
-abbrev pub ValuesStand : Items → Decline → Type 0
-ValuesStand ds = ItemsStand ValueStands ds
-
--- none where the part is missing or null
-abbrev pub OptionalValuesTree : List Value → Data → Type 0
-OptionalValuesTree vs t = OptionalArrayTree ValueTree vs t
-
-abbrev pub OptionalValuesStand : Data → Decline → Type 0
-OptionalValuesStand t = OptionalArrayStands ValueStands t
+ValueStands t kind = ⊥
 
 -- ---- laws
 

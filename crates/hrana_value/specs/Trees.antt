@@ -1,6 +1,6 @@
 -- Lists and optional parts in JSON trees.
 use Rattle.std.specs.Prelude.{◌≡◌, ◌⊎◌, List, [], ◌∷◌, Option, None, Some}
-use Rattle.serde_json.specs.Data.{Data, null, boolean, number, string, array, object, Items, no_items, item}
+use Rattle.serde_json.specs.Data.{Data, null, array, Items, no_items, item}
 use Rattle.hrana_value.specs.declared.failures.Decline.{Decline}
 use Rattle.hrana_value.specs.declared.failures.Decline.TheVariants.{Shape}
 use Rattle.hrana_value.specs.Declines.{Only}
@@ -8,9 +8,8 @@ use Rattle.hrana_value.specs.Declines.{Only}
 -- each item of an array is the tree of the item in its place
 abbrev pub ItemsTree : {A : Type 0} → (A → Data → Type 0) → List A → Items → Type 0
 ItemsTree tree [] no_items = Unit {0}
-ItemsTree tree [] (item d ds) = ⊥
-ItemsTree tree (x ∷ xs) no_items = ⊥
 ItemsTree tree (x ∷ xs) (item d ds) = tree x d × ItemsTree tree xs ds
+ItemsTree tree xs ds = ⊥
 
 -- a decline stands in an array where it stands in an item
 abbrev pub ItemsStand : (Data → Decline → Type 0) → Items → Decline → Type 0
@@ -20,36 +19,22 @@ ItemsStand stands (item d ds) k = stands d k ⊎ ItemsStand stands ds k
 -- the items of an array
 abbrev pub ArrayTree : {A : Type 0} → (A → Data → Type 0) → List A → Data → Type 0
 ArrayTree tree xs (array ds) = ItemsTree tree xs ds
-ArrayTree tree xs null = ⊥
-ArrayTree tree xs (boolean b) = ⊥
-ArrayTree tree xs (number n) = ⊥
-ArrayTree tree xs (string s) = ⊥
-ArrayTree tree xs (object ms) = ⊥
+ArrayTree tree xs other = ⊥
 
 abbrev pub ArrayStands : (Data → Decline → Type 0) → Data → Decline → Type 0
 ArrayStands stands (array ds) k = ItemsStand stands ds k
-ArrayStands stands null k = Only Shape (Unit {0}) k
-ArrayStands stands (boolean b) k = Only Shape (Unit {0}) k
-ArrayStands stands (number n) k = Only Shape (Unit {0}) k
-ArrayStands stands (string s) k = Only Shape (Unit {0}) k
-ArrayStands stands (object ms) k = Only Shape (Unit {0}) k
+ArrayStands stands other k = Only Shape (Unit {0}) k
 
 -- the items of an array that may be missing or null: then there are none
 abbrev pub OptionalArrayTree : {A : Type 0} → (A → Data → Type 0) → List A → Data → Type 0
 OptionalArrayTree tree xs null = xs ≡ []
 OptionalArrayTree tree xs (array ds) = ItemsTree tree xs ds
-OptionalArrayTree tree xs (boolean b) = ⊥
-OptionalArrayTree tree xs (number n) = ⊥
-OptionalArrayTree tree xs (string s) = ⊥
-OptionalArrayTree tree xs (object ms) = ⊥
+OptionalArrayTree tree xs other = ⊥
 
 abbrev pub OptionalArrayStands : (Data → Decline → Type 0) → Data → Decline → Type 0
 OptionalArrayStands stands null k = ⊥
 OptionalArrayStands stands (array ds) k = ItemsStand stands ds k
-OptionalArrayStands stands (boolean b) k = Only Shape (Unit {0}) k
-OptionalArrayStands stands (number n) k = Only Shape (Unit {0}) k
-OptionalArrayStands stands (string s) k = Only Shape (Unit {0}) k
-OptionalArrayStands stands (object ms) k = Only Shape (Unit {0}) k
+OptionalArrayStands stands other k = Only Shape (Unit {0}) k
 
 -- a part that may be missing or null
 abbrev pub OptionalTree : {A : Type 0} → (A → Data → Type 0) → Option A → Data → Type 0

@@ -62,10 +62,7 @@ pub fn int64_text_of_json(json: &Json) -> Result<i64, ReadFail>
     let Some(text) = json.as_str() else {
         return Err(ReadFail::Declined(Decline::Shape));
     };
-    match int64_of_text(text) {
-        Ok(number) => Ok(number),
-        Err(kind) => Err(ReadFail::Declined(kind)),
-    }
+    Ok(int64_of_text(text)?)
 }
 
 /// The same where null stands for none.
@@ -76,8 +73,5 @@ pub fn optional_int64_text_of_json(json: &Json) -> Result<Option<i64>, ReadFail>
     if json.is_null() {
         return Ok(None);
     }
-    match int64_text_of_json(json) {
-        Ok(number) => Ok(Some(number)),
-        Err(fail) => Err(fail),
-    }
+    Ok(Some(int64_text_of_json(json)?))
 }

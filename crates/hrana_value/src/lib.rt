@@ -5,7 +5,9 @@
 
 mod bytes;
 mod failures;
+mod forms;
 mod integers;
+mod list;
 mod members;
 mod names;
 mod numbers;
@@ -18,16 +20,17 @@ mod written;
 
 pub use bytes::Bytes;
 pub use failures::{Decline, NoMemory, ReadFail};
+pub use forms::{JsonForm, list_of_json, option_of_json, optional_list_of_json};
 pub use integers::{int64_of_text, int64_text_of_json, optional_int64_text_of_json};
-pub use members::{int32_member, is_absent, member, text_member};
+pub use list::{Duplicate, List};
+pub use members::{int32_member, is_absent, member_or_null, text_member};
 pub use names::{index_of, name};
 pub use numbers::{int32, int32_of_json, uint32, uint32_of_json, uint64, uint64_of_json};
-pub use readings::{both, with_item};
+pub use readings::{both_readings, with_item};
 pub use text::Txt;
-pub use texts::{optional_text_of_json, text_of_json};
+pub use texts::text_of_json;
 pub use tree::{
-    VALUE_KINDS, no_tree_is_two_values, no_value_is_declined, optional_values_of_json,
-    value_kinds_differ, value_of_json, values_of_json,
+    VALUE_KINDS, no_tree_is_two_values, no_value_is_declined, value_kinds_differ, value_of_json,
 };
 pub use value::{Value, Values};
 pub use written::{value_to_json, values_to_json};

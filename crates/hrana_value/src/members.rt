@@ -7,8 +7,8 @@ ghost use Rattle.hrana_value.specs.Members.{part_at, text_at, HasInt32, IsAbsent
 use crate::int32;
 use serde_json::Value as Json;
 
-/// The member of this name, or what is given as null where there is none: `member(json, "args", &Json::Null)`.
-pub fn member<'a>(json: &'a Json, name: &str, missing: &'a Json) -> &'a Json
+/// The member of this name, or what is given as null where there is none: `member_or_null(json, "args", &Json::Null)`.
+pub fn member_or_null<'a>(json: &'a Json, name: &str, missing: &'a Json) -> &'a Json
     requires { view missing.now ≡ null }
     ensures { view result.now ≡ part_at name.now (view json.now) }
 {
@@ -19,12 +19,12 @@ pub fn member<'a>(json: &'a Json, name: &str, missing: &'a Json) -> &'a Json
 }
 
 /// Reads the named members of an object, each by the reader of its kind:
-/// `members!(json; message = "message": text_of_json(alloc), code = "code": optional_text_of_json(alloc))` makes two
+/// `members!(json; message = "message": text_of_json(alloc), code = "code": option_of_json(alloc))` makes two
 /// variables with the two readings. A member that is missing is read as null.
 #[macro_export]
 macro_rules! members {
     ($json:ident; $($member:ident = $name:literal: $kind:ident($($given:expr),*)),+) => {
-        $(let $member = $kind($($given,)* $crate::member($json, $name, &Json::Null));)+
+        $(let $member = $kind($($given,)* $crate::member_or_null($json, $name, &Json::Null));)+
     };
 }
 
@@ -42,7 +42,7 @@ pub fn text_member<'a>(json: &'a Json, name: &str) -> Option<&'a str>
 pub fn int32_member(json: &Json, name: &str) -> Option<i32>
     ensures { MatchOption result ((z : ℤ) → HasInt32 (view json.now) name.now z → ⊥) (HasInt32 (view json.now) name.now) }
 {
-    match int32(member(json, name, &Json::Null)) {
+    match int32(member_or_null(json, name, &Json::Null)) {
         Ok(number) => Some(number),
         Err(_) => None,
     }

@@ -67,10 +67,7 @@ pub fn int32_of_json(json: &Json) -> Result<i32, ReadFail>
     ensures reads { Reads (λ n. Int32Tree n (view json.now)) (Int32Stands (view json.now)) result }
     ensures memory { TakesNoMemory result }
 {
-    match int32(json) {
-        Ok(number) => Ok(number),
-        Err(kind) => Err(ReadFail::Declined(kind)),
-    }
+    Ok(int32(json)?)
 }
 
 /// The same as a part of a message.
@@ -78,10 +75,7 @@ pub fn uint32_of_json(json: &Json) -> Result<u32, ReadFail>
     ensures reads { Reads (λ n. Uint32Tree n (view json.now)) (Uint32Stands (view json.now)) result }
     ensures memory { TakesNoMemory result }
 {
-    match uint32(json) {
-        Ok(number) => Ok(number),
-        Err(kind) => Err(ReadFail::Declined(kind)),
-    }
+    Ok(uint32(json)?)
 }
 
 /// The same as a part of a message.
@@ -89,8 +83,5 @@ pub fn uint64_of_json(json: &Json) -> Result<u64, ReadFail>
     ensures reads { Reads (λ n. Uint64Tree n (view json.now)) (Uint64Stands (view json.now)) result }
     ensures memory { TakesNoMemory result }
 {
-    match uint64(json) {
-        Ok(number) => Ok(number),
-        Err(kind) => Err(ReadFail::Declined(kind)),
-    }
+    Ok(uint64(json)?)
 }

@@ -6,7 +6,7 @@ ghost use Rattle.hrana_value.specs.declared.failures.Decline.{Decline};
 use crate::ReadFail;
 
 /// Two parts that were read, or the failure of the message: want of memory, or else the earlier kind of decline.
-pub fn both<A: Drop, B: Drop>(
+pub fn both_readings<A: Drop, B: Drop>(
     first: Result<A, ReadFail>,
     second: Result<B, ReadFail>,
 ) -> Result<(A, B), ReadFail>

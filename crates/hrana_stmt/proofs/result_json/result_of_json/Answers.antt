@@ -13,10 +13,10 @@ returns-in-Ok c =
     let rows = part_at (codes "rows") (view c.args.json.now) in
     let affected = part_at (codes "affected_row_count") (view c.args.json.now) in
     let rowid = part_at (codes "last_insert_rowid") (view c.args.json.now) in
-    Reads-both-ok c.both.ensures c.in-Ok.is
-    (Reads-joined {m = λ m. ArrayTree ColTree m cols} {n = λ m. ArrayTree RowTree m rows} {s = ArrayStands ColStands cols} {t = ArrayStands RowStands rows} c.both-lists.ensures
+    Reads-both-ok c.both_readings.ensures c.in-Ok.is
+    (Reads-joined {m = λ m. ArrayTree ColTree m cols} {n = λ m. ArrayTree RowTree m rows} {s = ArrayStands ColStands cols} {t = ArrayStands RowStands rows} c.both_readings-lists.ensures
     (search (Reads-at (ArrayTree ColTree) (ArrayStands ColStands))) (search (Reads-at (ArrayTree RowTree) (ArrayStands RowStands))))
-    (Reads-joined {m = λ m. Uint64Tree m affected} {n = λ m. OptionalTree Int64TextTree m rowid} {s = Uint64Stands affected} {t = OptionalStands Int64TextStands rowid} c.both-numbers.ensures
+    (Reads-joined {m = λ m. Uint64Tree m affected} {n = λ m. OptionalTree Int64TextTree m rowid} {s = Uint64Stands affected} {t = OptionalStands Int64TextStands rowid} c.both_readings-numbers.ensures
     (search (Reads-at Uint64Tree Uint64Stands)) (search (Reads-at (OptionalTree Int64TextTree) (OptionalStands Int64TextStands))))
     (λ h. record { cols = h.0.0; rows = h.0.1; affected = h.1.0; last_rowid = h.1.1 })
 
@@ -26,8 +26,8 @@ returns-in-Err c =
     let rows = part_at (codes "rows") (view c.args.json.now) in
     let affected = part_at (codes "affected_row_count") (view c.args.json.now) in
     let rowid = part_at (codes "last_insert_rowid") (view c.args.json.now) in
-    Reads-both-failed c.both.ensures c.in-Err.is
-    (Reads-joined {m = λ m. ArrayTree ColTree m cols} {n = λ m. ArrayTree RowTree m rows} {s = ArrayStands ColStands cols} {t = ArrayStands RowStands rows} c.both-lists.ensures
+    Reads-both-failed c.both_readings.ensures c.in-Err.is
+    (Reads-joined {m = λ m. ArrayTree ColTree m cols} {n = λ m. ArrayTree RowTree m rows} {s = ArrayStands ColStands cols} {t = ArrayStands RowStands rows} c.both_readings-lists.ensures
     (search (Reads-at (ArrayTree ColTree) (ArrayStands ColStands))) (search (Reads-at (ArrayTree RowTree) (ArrayStands RowStands))))
-    (Reads-joined {m = λ m. Uint64Tree m affected} {n = λ m. OptionalTree Int64TextTree m rowid} {s = Uint64Stands affected} {t = OptionalStands Int64TextStands rowid} c.both-numbers.ensures
+    (Reads-joined {m = λ m. Uint64Tree m affected} {n = λ m. OptionalTree Int64TextTree m rowid} {s = Uint64Stands affected} {t = OptionalStands Int64TextStands rowid} c.both_readings-numbers.ensures
     (search (Reads-at Uint64Tree Uint64Stands)) (search (Reads-at (OptionalTree Int64TextTree) (OptionalStands Int64TextStands))))

@@ -5,7 +5,7 @@ use Rattle.hrana_value.specs.declared.value.Value.TheVariants.{Text}
 use Rattle.hrana_value.proofs.TreeLemmas.{value_read}
 use Rattle.hrana_value.proofs.tree.text_value_of_json.Goals as goal
 
-pub returns-in-Ok : goal.returns-in-Ok
-returns-in-Ok c =
-    let has : HasText (view c.args.json.now) (codes "value") c.in-Ok.text = sym c.in-Some.ensures ∙ ap Some (sym c.in-Ok.ensures) in
-    value_read (Text c.in-Ok.text) (view c.args.json.now) (c.requires, has)
+pub returns : goal.returns
+returns c =
+    let has : HasText (view c.args.json.now) (codes "value") c.in_ok-new.field-0 = sym c.in-Some.ensures ∙ ap Some (sym c.in_ok-new.ensures) in
+    value_read (Text c.in_ok-new.field-0) (view c.args.json.now) (c.requires, has)
