@@ -6,8 +6,8 @@ use Rattle.engine_core.specs.Transactions.{View, Lives, Became}
 use Rattle.hrana_stmt.specs.declared.results.StmtResult.{StmtResult}
 use Rattle.hrana_stmt.specs.declared.codes.Code.{Code}
 use Rattle.hrana_stmt.specs.declared.codes.Code.TheVariants as code
-use Rattle.engine_core.specs.declared.engine.Answer.{Answer}
-use Rattle.engine_core.specs.declared.engine.Answer.TheVariants as answer
+use Rattle.engine_core.specs.declared.entries.Answer.{Answer}
+use Rattle.engine_core.specs.declared.entries.Answer.TheVariants as answer
 use Rattle.engine_core.specs.declared.statement.BoundStmt.{BoundStmt}
 use Rattle.sql_text.specs.declared.class.Class.{Class}
 use Rattle.sql_text.specs.declared.class.Class.TheVariants as class

@@ -1,7 +1,7 @@
 -- The calls of an object in memory that fail: their numbers are listed, counted from 1 over all calls of the object.
 use Rattle.std.specs.Prelude.{◌≡◌, ◌↔◌, ℕ, ◌+◌, ◌-◌, ◌^◌, min, List, Contains, Bool, IsTrue}
-use Rattle.engine_core.specs.declared.memory.ByteSource.{ByteSource}
-use Rattle.engine_core.specs.declared.memory.ByteSink.{ByteSink}
+use Rattle.engine_core.specs.declared.byte_source.ByteSource.{ByteSource}
+use Rattle.engine_core.specs.declared.byte_sink.ByteSink.{ByteSink}
 use Rattle.engine_core.specs.declared.failing.Failing.{Failing}
 
 -- the listed numbers, and how many calls there were

@@ -1,7 +1,7 @@
 -- The entries that wait, the places that are ready for more, and the number of the next unit.
 use Rattle.std.specs.Prelude.{◌≡◌, ◌+◌, ℕ, List}
-use Rattle.engine_core.specs.declared.engine.Entry.{Entry}
-use Rattle.engine_core.specs.declared.engine.Entry.TheVariants.{Alone, Began, Ran, Denied, Ended, Failed}
+use Rattle.engine_core.specs.declared.entries.Entry.{Entry}
+use Rattle.engine_core.specs.declared.entries.Entry.TheVariants.{Alone, Began, Ran, Denied, Ended, Failed}
 
 pub record Noted : Type 0 where
   pub list : List Entry

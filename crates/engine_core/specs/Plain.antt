@@ -8,11 +8,11 @@ use Rattle.hrana_stmt.specs.declared.codes.Code.TheVariants.{Syntax, ResultTooLa
 use Rattle.engine_core.specs.Engine.{is_write, is_engine_code}
 use Rattle.engine_core.specs.Results.{values_size}
 use Rattle.engine_core.specs.Transactions.{Single}
-use Rattle.engine_core.specs.declared.plain.Running.{Running}
-use Rattle.engine_core.specs.declared.plain.Kind.{Kind}
-use Rattle.engine_core.specs.declared.plain.Kind.TheVariants.{Insert, Select, Other}
-use Rattle.engine_core.specs.declared.engine.Answer.{Answer}
-use Rattle.engine_core.specs.declared.engine.Answer.TheVariants.{Gave, Refused}
+use Rattle.engine_core.specs.declared.plain_keeper.Running.{Running}
+use Rattle.engine_core.specs.declared.plain_keeper.Kind.{Kind}
+use Rattle.engine_core.specs.declared.plain_keeper.Kind.TheVariants.{Insert, Select, Other}
+use Rattle.engine_core.specs.declared.entries.Answer.{Answer}
+use Rattle.engine_core.specs.declared.entries.Answer.TheVariants.{Gave, Refused}
 use Rattle.engine_core.specs.declared.statement.BoundStmt.{BoundStmt}
 use Rattle.engine_core.specs.declared.engine.EngineFail.{EngineFail}
 use Rattle.engine_core.specs.declared.engine.EngineFail.TheVariants as fail

@@ -6,13 +6,13 @@ use Rattle.hrana_stmt.specs.declared.codes.Code.{Code}
 use Rattle.hrana_stmt.specs.declared.results.StmtResult.{StmtResult}
 use Rattle.engine_core.specs.Engine.{is_read, is_write, is_refusal}
 use Rattle.engine_core.specs.Plain.{plain_exec, exec_kind, kind_of, select_text, fits_result}
-use Rattle.engine_core.specs.declared.engine.Answer.{Answer}
-use Rattle.engine_core.specs.declared.engine.Answer.TheVariants.{Gave, Refused}
+use Rattle.engine_core.specs.declared.entries.Answer.{Answer}
+use Rattle.engine_core.specs.declared.entries.Answer.TheVariants.{Gave, Refused}
 use Rattle.engine_core.specs.declared.statement.BoundStmt.{BoundStmt}
 use Rattle.sql_text.specs.declared.class.Class.{Class}
 use Rattle.sql_text.specs.declared.class.Class.TheVariants as class
-use Rattle.engine_core.specs.declared.plain.Kind.{Kind}
-use Rattle.engine_core.specs.declared.plain.Kind.TheVariants.{Insert, Select, Other}
+use Rattle.engine_core.specs.declared.plain_keeper.Kind.{Kind}
+use Rattle.engine_core.specs.declared.plain_keeper.Kind.TheVariants.{Insert, Select, Other}
 use Rattle.std.specs.Prelude.{nat_lt, length, ◌+◌, ◌-◌, ◌^◌, if◌then◌else◌, nat_eq}
 use Rattle.std.specs.Cmp.Lexicographic.{pointwise}
 

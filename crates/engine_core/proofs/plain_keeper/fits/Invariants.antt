@@ -1,7 +1,7 @@
 use Rattle.std.proofs.Common.{◌≡◌, ◌≤◌, take}
 use Rattle.std.specs.Prelude.{sum_by}
 use Rattle.engine_core.specs.Results.{value_size}
-use Rattle.engine_core.proofs.plain.fits.Given as goal
+use Rattle.engine_core.proofs.plain_keeper.fits.Given as goal
 
 abbrev pub invariant-loop-value : goal.invariant-loop-value
 invariant-loop-value l = record {
