@@ -5,9 +5,9 @@ use Rattle.std.proofs.KnownBytes.{Keeps-refl, Appends-nil}
 use Rattle.serial_order.specs.Serial.{Meaning, serial, last_database}
 use Rattle.engine_core.specs.Bytes.{lines_of}
 use Rattle.engine_core.specs.Journal.{entry_of}
-use Rattle.engine_core.specs.declared.engine.Answer.{Answer}
+use Rattle.engine_core.specs.declared.entries.Answer.{Answer}
 use Rattle.engine_core.specs.declared.statement.BoundStmt.{BoundStmt}
-use Rattle.engine_core.specs.declared.engine.Entry.{Entry}
+use Rattle.engine_core.specs.declared.entries.Entry.{Entry}
 use Rattle.engine_core.specs.declared.status.Status.{Status}
 use Rattle.engine_core.specs.declared.status.Status.TheVariants as status
 use Rattle.hrana_serve.specs.State.{State, first_state}
