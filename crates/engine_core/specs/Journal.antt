@@ -45,12 +45,7 @@ entry_of (Failed stream unit cause) = law.Failed stream.0 unit (broken_of cause)
 -- 1 for a failure by a fault
 abbrev pub fault_of : Entry → ℕ
 fault_of (Failed stream unit broken.Fault) = 1
-fault_of (Failed stream unit broken.NoMemory) = 0
-fault_of (Alone stream stmt answer wrote) = 0
-fault_of (Began unit stream) = 0
-fault_of (Ran unit stmt answer) = 0
-fault_of (Denied unit deny) = 0
-fault_of (Ended unit how) = 0
+fault_of entry = 0
 
 -- the entries that are failures by a fault
 abbrev pub fault_count : List Entry → ℕ

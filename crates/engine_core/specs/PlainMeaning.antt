@@ -38,13 +38,7 @@ select_or_other false db values = refl
 
 no_write : (c : Class) → is_read c ≡ true → is_write c ≡ false
 no_write class.Read p = refl
-no_write class.Write p = absurd (true≢false (sym p))
-no_write (class.Begin mode) p = absurd (true≢false (sym p))
-no_write class.Commit p = absurd (true≢false (sym p))
-no_write class.Rollback p = absurd (true≢false (sym p))
-no_write class.Savepoint p = absurd (true≢false (sym p))
-no_write class.Barred p = absurd (true≢false (sym p))
-no_write class.Empty p = absurd (true≢false (sym p))
+no_write c p = absurd (true≢false (sym p))
 
 pub refusal_leaves : (db : List Value) (stmt : BoundStmt) → is_refusal (plain_exec db stmt).1 ≡ true → (plain_exec db stmt).0 ≡ db
 refusal_leaves db stmt p = kind_leaves (kind_of (is_write stmt.class) stmt.sql) db stmt.values p

@@ -33,11 +33,24 @@ impl ByteSource {
 }
 
 impl Source for ByteSource {
+    ghost use Rattle.std.specs.Io.{ReadsAtMost};
+    ghost use Rattle.std.specs.Io.KnownBytes.{ReadConsumes};
+    ghost use Rattle.std.specs.Prelude.{OnErr};
+    ghost use Rattle.engine_core.specs.Causes.{HasCause};
+    ghost use Rattle.engine_core.specs.Listed.{source_calls, CountsCall, FailsNext};
+
     ghost left = { λ s. Some (drop s.at s.bytes.items) };
 
     ghost faults = { λ s. s.faults };
 
-    fn read(&mut self, buf: &mut [u8]) -> Result<usize, Failed> {
+    /// Fails exactly at the listed calls.
+    fn read(&mut self, buf: &mut [u8]) -> Result<usize, Failed>
+        ensures bound { ReadsAtMost result buf.new }
+        ensures bytes { ReadConsumes (Some (drop self.old.at self.old.bytes.items)) (Some (drop self.new.at self.new.bytes.items)) result buf.new }
+        ensures cause { HasCause self.old.faults self.new.faults result }
+        ensures listed { CountsCall (source_calls self.old) (source_calls self.new) self.old.faults self.new.faults result }
+        ensures no_other { OnErr result (FailsNext (source_calls self.old)) }
+    {
         self.calls = self.calls.saturating_add(1);
         if self.fail_at.contains(&self.calls) {
             self.faults = self.faults.saturating_add(1);

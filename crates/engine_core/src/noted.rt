@@ -49,7 +49,6 @@ impl Entries {
     pub fn push(&mut self, entry: Entry)
         requires room { 0 < self.old.spare }
         requires unit { IsNumbered self.old.next entry }
-        requires few { self.old.next < 2 ^ 64 - 1 }
         ensures list { self.new.list ≡ self.old.list ++ entry ∷ [] }
         ensures spare { self.new.spare + 1 ≡ self.old.spare }
         ensures next { self.new.next ≡ next_after self.old.next entry }

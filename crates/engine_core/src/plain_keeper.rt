@@ -6,16 +6,10 @@ ghost use Rattle.engine_core.specs.Results.{value_size, IsSmall};
 ghost use Rattle.engine_core.specs.Transactions.{NoneLive, lives_of};
 ghost use Rattle.engine_core.specs.PlainMeaning.{plain_meaning};
 
-use crate::{BoundStmt, Class, Engine, EngineFail};
+use crate::{BoundStmt, Class, Engine, EngineFail, MAX_RESULT_BYTES, MAX_ROWS};
 use hrana_stmt::{Code, Col, Cols, Rows, StmtResult};
 use hrana_value::{NoMemory, Txt, Value, Values};
 use std::alloc::Global;
-
-/// The most rows of a result.
-const MAX_ROWS: usize = 4096;
-
-/// The most bytes of a result's values: a null and an integer count 8, a text and a blob 8 and their length.
-const MAX_SIZE: usize = 1048576;
 
 const MAX_ROWID: usize = 9223372036854775806;
 
@@ -135,7 +129,7 @@ fn fits(column: &[Value]) -> bool
     let mut size = 0;
     for value in column {
         size += size_of_value(value);
-        if size > MAX_SIZE {
+        if size > MAX_RESULT_BYTES {
             return false;
         }
     }
