@@ -8,7 +8,7 @@ ghost use Rattle.sql_text.specs.declared.class.Class.TheVariants.{Write};
 ghost use Rattle.engine_core.specs.declared.statement.BoundStmt.{BoundStmt};
 ghost use Rattle.engine_core.specs.declared.entries.Answer.{Answer};
 
-use crate::{Answer, BoundStmt};
+use crate::{Answer, BoundStmt, NoMemory};
 use hrana_stmt::{Code, StmtResult};
 use hrana_value::StreamNo;
 
@@ -20,6 +20,16 @@ pub enum EngineFail {
     /// The engine broke.
     Fault,
     NoMemory,
+}
+
+impl From<NoMemory> for EngineFail {
+    ghost use Rattle.engine_core.specs.declared.engine.EngineFail.TheVariants as fail;
+
+    ghost from_gives = { λ _ e. e ≡ fail.NoMemory };
+
+    fn from(_: NoMemory) -> Self {
+        EngineFail::NoMemory
+    }
 }
 
 /// An engine runs statements over its tables, alone or in transactions, which their callers number. One that doesn't

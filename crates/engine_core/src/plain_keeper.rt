@@ -93,12 +93,8 @@ fn insert(alloc: Global, column: &mut Values, values: &[Value]) -> Result<StmtRe
         return Err(EngineFail::Refused(Code::Overflow));
     }
     let rowid = column.as_slice().len() + 1;
-    let Ok(value) = value_of(alloc, values) else {
-        return Err(EngineFail::NoMemory);
-    };
-    if column.push(value).is_err() {
-        return Err(EngineFail::NoMemory);
-    }
+    let value = value_of(alloc, values)?;
+    column.push(value)?;
     Ok(StmtResult {
         cols: Cols::new(alloc),
         rows: Rows::new(alloc),
@@ -177,10 +173,7 @@ fn select(alloc: Global, column: &[Value]) -> Result<StmtResult, EngineFail>
     if !fits(column) {
         return Err(EngineFail::Refused(Code::ResultTooLarge));
     }
-    match result_of(alloc, column) {
-        Ok(given) => Ok(given),
-        Err(_) => Err(EngineFail::NoMemory),
-    }
+    Ok(result_of(alloc, column)?)
 }
 
 /// Runs the statement that a text is.
@@ -233,12 +226,9 @@ impl Engine for PlainKeeper {
     ghost refusals = { λ _. refl };
 
     fn begin(&mut self, txn: u64, write: bool) -> Result<(), EngineFail> {
-        let Ok(column) = self.column.copy(self.alloc) else {
-            return Err(EngineFail::NoMemory);
-        };
         self.running = Some(Running {
             txn,
-            column,
+            column: self.column.copy(self.alloc)?,
             writes: write,
         });
         Ok(())
