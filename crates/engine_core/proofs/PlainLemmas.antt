@@ -5,6 +5,7 @@ use Rattle.std.proofs.lemmas.Bool.{leb-true}
 use Rattle.std.proofs.lemmas.List.{length-map}
 use Rattle.std.proofs.lemmas.List.Sums.{sum_by-cons}
 use Rattle.hrana_value.specs.declared.value.Value.{Value}
+use Rattle.engine_core.specs.declared.limits.TheConstants.{MAX_ROWS, MAX_RESULT_BYTES}
 use Rattle.engine_core.specs.Plain.{fits_result, selected}
 use Rattle.engine_core.specs.Results.{value_size, values_size, rows_size, IsSmall}
 
@@ -24,9 +25,9 @@ second false b h = cc h
 
 pub IsSmall-selected : (column : List Value) → fits_result column ≡ true → IsSmall (selected column)
 IsSmall-selected column fits =
-    let rows : length column ≤ 4096 = leb-true (length column) 4096 (first (leb (length column) 4096) (leb (values_size column) 1048576) fits) in
-    let bytes : values_size column ≤ 1048576 = leb-true (values_size column) 1048576 (second (leb (length column) 4096) (leb (values_size column) 1048576) fits) in
+    let rows : length column ≤ MAX_ROWS = leb-true (length column) MAX_ROWS (first (leb (length column) MAX_ROWS) (leb (values_size column) MAX_RESULT_BYTES) fits) in
+    let bytes : values_size column ≤ MAX_RESULT_BYTES = leb-true (values_size column) MAX_RESULT_BYTES (second (leb (length column) MAX_ROWS) (leb (values_size column) MAX_RESULT_BYTES) fits) in
     record {
-      rows = subst (λ n. n ≤ 4096) (sym (length-map column (λ value. value ∷ []))) rows;
-      bytes = subst (λ n. n ≤ 1048576) (sym (rows_size-column column)) bytes;
+      rows = subst (λ n. n ≤ MAX_ROWS) (sym (length-map column (λ value. value ∷ []))) rows;
+      bytes = subst (λ n. n ≤ MAX_RESULT_BYTES) (sym (rows_size-column column)) bytes;
     }

@@ -6,8 +6,8 @@ use Rattle.engine_core.specs.Transactions.{View, Lives, Became}
 use Rattle.hrana_stmt.specs.declared.results.StmtResult.{StmtResult}
 use Rattle.hrana_stmt.specs.declared.codes.Code.{Code}
 use Rattle.hrana_stmt.specs.declared.codes.Code.TheVariants as code
-use Rattle.engine_core.specs.declared.engine.Answer.{Answer}
-use Rattle.engine_core.specs.declared.engine.Answer.TheVariants as answer
+use Rattle.engine_core.specs.declared.entries.Answer.{Answer}
+use Rattle.engine_core.specs.declared.entries.Answer.TheVariants as answer
 use Rattle.engine_core.specs.declared.statement.BoundStmt.{BoundStmt}
 use Rattle.sql_text.specs.declared.class.Class.{Class}
 use Rattle.sql_text.specs.declared.class.Class.TheVariants as class
@@ -16,34 +16,17 @@ use Rattle.engine_core.specs.declared.engine.EngineFail.TheVariants as fail
 
 abbrev pub is_read : Class → Bool
 is_read class.Read = true
-is_read class.Write = false
-is_read (class.Begin mode) = false
-is_read class.Commit = false
-is_read class.Rollback = false
-is_read class.Savepoint = false
-is_read class.Barred = false
-is_read class.Empty = false
+is_read c = false
 
 abbrev pub is_write : Class → Bool
 is_write class.Write = true
-is_write class.Read = false
-is_write (class.Begin mode) = false
-is_write class.Commit = false
-is_write class.Rollback = false
-is_write class.Savepoint = false
-is_write class.Barred = false
-is_write class.Empty = false
+is_write c = false
 
 -- a statement that an engine may be given
 abbrev pub IsReadOrWrite : Class → Type 0
 IsReadOrWrite class.Read = Unit {0}
 IsReadOrWrite class.Write = Unit {0}
-IsReadOrWrite (class.Begin mode) = ⊥
-IsReadOrWrite class.Commit = ⊥
-IsReadOrWrite class.Rollback = ⊥
-IsReadOrWrite class.Savepoint = ⊥
-IsReadOrWrite class.Barred = ⊥
-IsReadOrWrite class.Empty = ⊥
+IsReadOrWrite c = ⊥
 
 abbrev pub is_refusal : Answer → Bool
 is_refusal (answer.Gave given) = false
@@ -94,17 +77,13 @@ is_engine_code code = false
 
 -- a refusal carries a code of an engine
 abbrev pub RefusesByCode : {T : Type 0} → Result T EngineFail → Type 0
-RefusesByCode (Ok given) = Unit {0}
 RefusesByCode (Err (fail.Refused code)) = IsTrue (is_engine_code code)
-RefusesByCode (Err fail.Fault) = Unit {0}
-RefusesByCode (Err fail.NoMemory) = Unit {0}
+RefusesByCode result = Unit {0}
 
 -- beginning and committing are never refused
 abbrev pub IsNoRefusal : {T : Type 0} → Result T EngineFail → Type 0
-IsNoRefusal (Ok given) = Unit {0}
 IsNoRefusal (Err (fail.Refused code)) = ⊥
-IsNoRefusal (Err fail.Fault) = Unit {0}
-IsNoRefusal (Err fail.NoMemory) = Unit {0}
+IsNoRefusal result = Unit {0}
 
 -- A fault comes only where the count rose. So does a refusal by an engine that doesn't tell.
 abbrev pub HasEngineCause : {T : Type 0} → Bool → ℕ → ℕ → Result T EngineFail → Type 0

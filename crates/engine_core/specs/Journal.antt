@@ -2,17 +2,17 @@
 use Rattle.std.specs.Prelude.{ℕ, ◌+◌, List, [], ◌∷◌}
 use Rattle.serial_order.specs.Journal as law
 use Rattle.engine_core.specs.declared.statement.BoundStmt.{BoundStmt}
-use Rattle.engine_core.specs.declared.engine.Answer.{Answer}
-use Rattle.engine_core.specs.declared.engine.Broken.{Broken}
-use Rattle.engine_core.specs.declared.engine.Broken.TheVariants as broken
-use Rattle.engine_core.specs.declared.engine.Deny.{Deny}
-use Rattle.engine_core.specs.declared.engine.Deny.TheVariants.{Stale, Held}
-use Rattle.engine_core.specs.declared.engine.Entry.{Entry}
-use Rattle.engine_core.specs.declared.engine.Entry.TheVariants.{Alone, Began, Ran, Denied, Ended, Failed}
-use Rattle.engine_core.specs.declared.engine.How.{How}
-use Rattle.engine_core.specs.declared.engine.How.TheVariants.{Committed, Read, Undone}
-use Rattle.engine_core.specs.declared.engine.Undo.{Undo}
-use Rattle.engine_core.specs.declared.engine.Undo.TheVariants as undo
+use Rattle.engine_core.specs.declared.entries.Answer.{Answer}
+use Rattle.engine_core.specs.declared.entries.Broken.{Broken}
+use Rattle.engine_core.specs.declared.entries.Broken.TheVariants as broken
+use Rattle.engine_core.specs.declared.entries.Deny.{Deny}
+use Rattle.engine_core.specs.declared.entries.Deny.TheVariants.{Stale, Held}
+use Rattle.engine_core.specs.declared.entries.Entry.{Entry}
+use Rattle.engine_core.specs.declared.entries.Entry.TheVariants.{Alone, Began, Ran, Denied, Ended, Failed}
+use Rattle.engine_core.specs.declared.entries.How.{How}
+use Rattle.engine_core.specs.declared.entries.How.TheVariants.{Committed, Read, Undone}
+use Rattle.engine_core.specs.declared.entries.Undo.{Undo}
+use Rattle.engine_core.specs.declared.entries.Undo.TheVariants as undo
 
 abbrev pub deny_of : Deny → law.Deny
 deny_of (Stale had now) = law.Stale had now
@@ -45,12 +45,7 @@ entry_of (Failed stream unit cause) = law.Failed stream.0 unit (broken_of cause)
 -- 1 for a failure by a fault
 abbrev pub fault_of : Entry → ℕ
 fault_of (Failed stream unit broken.Fault) = 1
-fault_of (Failed stream unit broken.NoMemory) = 0
-fault_of (Alone stream stmt answer wrote) = 0
-fault_of (Began unit stream) = 0
-fault_of (Ran unit stmt answer) = 0
-fault_of (Denied unit deny) = 0
-fault_of (Ended unit how) = 0
+fault_of entry = 0
 
 -- the entries that are failures by a fault
 abbrev pub fault_count : List Entry → ℕ

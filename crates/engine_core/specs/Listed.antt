@@ -1,7 +1,7 @@
 -- The calls of an object in memory that fail: their numbers are listed, counted from 1 over all calls of the object.
-use Rattle.std.specs.Prelude.{◌≡◌, ◌↔◌, ℕ, ◌+◌, ◌-◌, ◌^◌, min, List, Contains, Bool, IsTrue}
-use Rattle.engine_core.specs.declared.memory.ByteSource.{ByteSource}
-use Rattle.engine_core.specs.declared.memory.ByteSink.{ByteSink}
+use Rattle.std.specs.Prelude.{◌≡◌, ◌↔◌, ℕ, ◌+◌, ◌-◌, ◌^◌, min, List, Contains, Bool, IsTrue, Result, OnOk, OnErr}
+use Rattle.engine_core.specs.declared.byte_source.ByteSource.{ByteSource}
+use Rattle.engine_core.specs.declared.byte_sink.ByteSink.{ByteSink}
 use Rattle.engine_core.specs.declared.failing.Failing.{Failing}
 
 -- the listed numbers, and how many calls there were
@@ -27,3 +27,11 @@ pub record FailsAsListed (old new : Listed) (fails : Bool) : Type 0 where
   pub same : new.fail_at ≡ old.fail_at
   pub counted : new.calls ≡ min (old.calls + 1) (2 ^ 64 - 1)
   pub exact : IsTrue fails ↔ FailsNext old
+
+-- A call was counted. It failed where it is listed, and it is a fault exactly where it failed.
+pub record CountsCall {T E : Type 0} (old new : Listed) (before now : ℕ) (result : Result T E) : Type 0 where
+  pub same : new.fail_at ≡ old.fail_at
+  pub counted : new.calls ≡ min (old.calls + 1) (2 ^ 64 - 1)
+  pub listed : OnOk result (¬ FailsNext old)
+  pub no_fault : OnOk result (now ≡ before)
+  pub fault : OnErr result (now ≡ min (before + 1) (2 ^ 64 - 1))

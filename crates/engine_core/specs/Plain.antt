@@ -8,11 +8,12 @@ use Rattle.hrana_stmt.specs.declared.codes.Code.TheVariants.{Syntax, ResultTooLa
 use Rattle.engine_core.specs.Engine.{is_write, is_engine_code}
 use Rattle.engine_core.specs.Results.{values_size}
 use Rattle.engine_core.specs.Transactions.{Single}
-use Rattle.engine_core.specs.declared.plain.Running.{Running}
-use Rattle.engine_core.specs.declared.plain.Kind.{Kind}
-use Rattle.engine_core.specs.declared.plain.Kind.TheVariants.{Insert, Select, Other}
-use Rattle.engine_core.specs.declared.engine.Answer.{Answer}
-use Rattle.engine_core.specs.declared.engine.Answer.TheVariants.{Gave, Refused}
+use Rattle.engine_core.specs.declared.limits.TheConstants.{MAX_ROWS, MAX_RESULT_BYTES}
+use Rattle.engine_core.specs.declared.plain_keeper.Running.{Running}
+use Rattle.engine_core.specs.declared.plain_keeper.Kind.{Kind}
+use Rattle.engine_core.specs.declared.plain_keeper.Kind.TheVariants.{Insert, Select, Other}
+use Rattle.engine_core.specs.declared.entries.Answer.{Answer}
+use Rattle.engine_core.specs.declared.entries.Answer.TheVariants.{Gave, Refused}
 use Rattle.engine_core.specs.declared.statement.BoundStmt.{BoundStmt}
 use Rattle.engine_core.specs.declared.engine.EngineFail.{EngineFail}
 use Rattle.engine_core.specs.declared.engine.EngineFail.TheVariants as fail
@@ -28,9 +29,9 @@ abbrev pub first_value : List Value → Value
 first_value [] = Null
 first_value (value ∷ values) = value
 
--- a result has at most 4,096 rows and 1,048,576 bytes of values
+-- a result is within its limits
 abbrev pub fits_result : List Value → Bool
-fits_result column = nat_le (length column) 4096 && nat_le (values_size column) 1048576
+fits_result column = nat_le (length column) MAX_ROWS && nat_le (values_size column) MAX_RESULT_BYTES
 
 abbrev pub inserted : ℕ → StmtResult
 inserted rowid = record { cols = []; rows = []; affected = 1; last_rowid = Some (pos rowid) }

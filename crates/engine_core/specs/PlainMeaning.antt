@@ -6,13 +6,13 @@ use Rattle.hrana_stmt.specs.declared.codes.Code.{Code}
 use Rattle.hrana_stmt.specs.declared.results.StmtResult.{StmtResult}
 use Rattle.engine_core.specs.Engine.{is_read, is_write, is_refusal}
 use Rattle.engine_core.specs.Plain.{plain_exec, exec_kind, kind_of, select_text, fits_result}
-use Rattle.engine_core.specs.declared.engine.Answer.{Answer}
-use Rattle.engine_core.specs.declared.engine.Answer.TheVariants.{Gave, Refused}
+use Rattle.engine_core.specs.declared.entries.Answer.{Answer}
+use Rattle.engine_core.specs.declared.entries.Answer.TheVariants.{Gave, Refused}
 use Rattle.engine_core.specs.declared.statement.BoundStmt.{BoundStmt}
 use Rattle.sql_text.specs.declared.class.Class.{Class}
 use Rattle.sql_text.specs.declared.class.Class.TheVariants as class
-use Rattle.engine_core.specs.declared.plain.Kind.{Kind}
-use Rattle.engine_core.specs.declared.plain.Kind.TheVariants.{Insert, Select, Other}
+use Rattle.engine_core.specs.declared.plain_keeper.Kind.{Kind}
+use Rattle.engine_core.specs.declared.plain_keeper.Kind.TheVariants.{Insert, Select, Other}
 use Rattle.std.specs.Prelude.{nat_lt, length, ◌+◌, ◌-◌, ◌^◌, if◌then◌else◌, nat_eq}
 use Rattle.std.specs.Cmp.Lexicographic.{pointwise}
 
@@ -38,13 +38,7 @@ select_or_other false db values = refl
 
 no_write : (c : Class) → is_read c ≡ true → is_write c ≡ false
 no_write class.Read p = refl
-no_write class.Write p = absurd (true≢false (sym p))
-no_write (class.Begin mode) p = absurd (true≢false (sym p))
-no_write class.Commit p = absurd (true≢false (sym p))
-no_write class.Rollback p = absurd (true≢false (sym p))
-no_write class.Savepoint p = absurd (true≢false (sym p))
-no_write class.Barred p = absurd (true≢false (sym p))
-no_write class.Empty p = absurd (true≢false (sym p))
+no_write c p = absurd (true≢false (sym p))
 
 pub refusal_leaves : (db : List Value) (stmt : BoundStmt) → is_refusal (plain_exec db stmt).1 ≡ true → (plain_exec db stmt).0 ≡ db
 refusal_leaves db stmt p = kind_leaves (kind_of (is_write stmt.class) stmt.sql) db stmt.values p

@@ -6,9 +6,9 @@ ghost use Rattle.engine_core.specs.Results.{IsSmall};
 ghost use Rattle.engine_core.specs.Transactions.{Lives, NoneLive, NoWriter, NoOtherWriter, SameLive, Became, StartsAt, MayCommit, Committed};
 ghost use Rattle.sql_text.specs.declared.class.Class.TheVariants.{Write};
 ghost use Rattle.engine_core.specs.declared.statement.BoundStmt.{BoundStmt};
-ghost use Rattle.engine_core.specs.declared.engine.Answer.{Answer};
+ghost use Rattle.engine_core.specs.declared.entries.Answer.{Answer};
 
-use crate::BoundStmt;
+use crate::{Answer, BoundStmt, NoMemory};
 use hrana_stmt::{Code, StmtResult};
 use hrana_value::StreamNo;
 
@@ -22,80 +22,14 @@ pub enum EngineFail {
     NoMemory,
 }
 
-/// What a statement that the engine ran was answered.
-#[derive(Debug, Drop)]
-pub enum Answer {
-    Gave(StmtResult),
-    Refused(Code),
-}
+impl From<NoMemory> for EngineFail {
+    ghost use Rattle.engine_core.specs.declared.engine.EngineFail.TheVariants as fail;
 
-/// Why a transaction was taken back.
-#[derive(Clone, Copy, Debug, PartialEq, Eq)]
-pub enum Undo {
-    Close,
-    Lost,
-    Expired,
-    Rollback,
-    Stop,
-}
+    ghost from_gives = { λ _ e. e ≡ fail.NoMemory };
 
-/// How a transaction ended.
-#[derive(Clone, Copy, Debug, PartialEq, Eq)]
-pub enum How {
-    Committed,
-    Read,
-    Undone(Undo),
-}
-
-/// Why a reader may not write.
-#[derive(Clone, Copy, Debug, PartialEq, Eq)]
-pub enum Deny {
-    Stale { had: u64, now: u64 },
-    Held { by: StreamNo },
-}
-
-/// Why the engine gave no answer.
-#[derive(Clone, Copy, Debug, PartialEq, Eq)]
-pub enum Broken {
-    Fault,
-    NoMemory,
-}
-
-/// What a journal notes.
-#[derive(Debug, Drop)]
-pub enum Entry {
-    /// A statement outside a transaction.
-    Alone {
-        stream: StreamNo,
-        stmt: BoundStmt,
-        answer: Answer,
-        wrote: bool,
-    },
-    /// A transaction began. Units are numbered from 1.
-    Began {
-        unit: u64,
-        stream: StreamNo,
-    },
-    /// A statement in a transaction.
-    Ran {
-        unit: u64,
-        stmt: BoundStmt,
-        answer: Answer,
-    },
-    Denied {
-        unit: u64,
-        deny: Deny,
-    },
-    Ended {
-        unit: u64,
-        how: How,
-    },
-    /// The engine broke. Where it names a unit, that unit ended and left nothing.
-    Failed {
-        stream: StreamNo,
-        unit: Option<u64>,
-        cause: Broken,
-    },
+    fn from(_: NoMemory) -> Self {
+        EngineFail::NoMemory
+    }
 }
 
 /// An engine runs statements over its tables, alone or in transactions, which their callers number. One that doesn't

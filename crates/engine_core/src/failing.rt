@@ -17,7 +17,7 @@ pub struct Failing<E: Engine + Drop> {
 }
 
 impl<E: Engine + Drop> Failing<E> {
-    ghost use Rattle.std.specs.Prelude.{◌≤◌, true};
+    ghost use Rattle.std.specs.Prelude.{◌≤◌, true, false};
     ghost use Rattle.engine_core.specs.Causes.{Rose};
     ghost use Rattle.engine_core.specs.Listed.{engine_calls, FailsAsListed};
     ghost use Rattle.engine_core.specs.Transactions.{SameLive};
@@ -41,6 +41,7 @@ impl<E: Engine + Drop> Failing<E> {
         ensures calls { FailsAsListed (engine_calls self.old) (engine_calls self.new) result }
         ensures later { self.old.faults ≤ self.new.faults }
         ensures rose { result ≡ true → Rose self.old.faults self.new.faults }
+        ensures same { result ≡ false → self.new.faults ≡ self.old.faults }
     {
         self.calls = self.calls.saturating_add(1);
         let fails = self.fail_at.contains(&self.calls);

@@ -1,26 +1,32 @@
 //! The traits of the outside, what stands for them in memory and over std, and the entries of a journal.
 #![tactic(auto)]
 
+mod byte_sink;
+mod byte_source;
 mod engine;
 mod entries;
 mod failing;
-mod memory;
+mod limits;
+mod noted;
 mod outside;
-mod plain;
+mod plain_keeper;
 mod statement;
 mod status;
 #[cfg(test)]
 mod tests;
 mod transfer;
 
-pub use engine::{Answer, Broken, Deny, Engine, EngineFail, Entry, How, Undo};
-pub use entries::Entries;
+pub use byte_sink::ByteSink;
+pub use byte_source::ByteSource;
+pub use engine::{Engine, EngineFail};
+pub use entries::{Answer, Broken, Deny, Entry, How, Undo};
 pub use failing::Failing;
 pub use hrana_value::NoMemory;
-pub use memory::{ByteSink, ByteSource};
+pub use limits::{MAX_INPUT_BYTES, MAX_RESULT_BYTES, MAX_ROWS, limits_are};
+pub use noted::Entries;
 pub use outside::{Failed, ReaderSource, Sink, Source, WriterSink};
-pub use plain::PlainKeeper;
+pub use plain_keeper::PlainKeeper;
 pub use sql_text::{Class, Mode};
 pub use statement::BoundStmt;
 pub use status::Status;
-pub use transfer::{MAX_INPUT, ReadAllFail, read_all, write_all};
+pub use transfer::{ReadAllFail, read_all, write_all};

@@ -5,9 +5,10 @@ use Rattle.std.proofs.KnownBytes.{Keeps-refl, Appends-nil}
 use Rattle.serial_order.specs.Serial.{Meaning, serial, last_database}
 use Rattle.engine_core.specs.Bytes.{lines_of}
 use Rattle.engine_core.specs.Journal.{entry_of}
-use Rattle.engine_core.specs.declared.engine.Answer.{Answer}
+use Rattle.engine_core.specs.declared.entries.Answer.{Answer}
 use Rattle.engine_core.specs.declared.statement.BoundStmt.{BoundStmt}
-use Rattle.engine_core.specs.declared.engine.Entry.{Entry}
+use Rattle.engine_core.specs.declared.entries.Entry.{Entry}
+use Rattle.engine_core.specs.declared.limits.TheConstants.{MAX_INPUT_BYTES}
 use Rattle.engine_core.specs.declared.status.Status.{Status}
 use Rattle.engine_core.specs.declared.status.Status.TheVariants as status
 use Rattle.hrana_serve.specs.State.{State, first_state}
@@ -40,20 +41,19 @@ module _ (all : List (List ℕ)) (end : Status) (s : State) (count : ℕ) (held 
       let both = same_outs (h.events ++ Stop ∷ []) (events ++ Stop ∷ []) J J (h.outs ++ None ∷ []) (outs ++ None ∷ []) s t (ap (λ l. l ++ Stop ∷ []) same) refl (stopped h.events J h.outs s h.run) r.run in
       subst (λ o. WritesAs end o held holds) (snoc_one h.outs outs None None both).0 h.writes
 
-pub journal_fits : (L : List (List ℕ)) (bytes : List ℕ) (end : Status) (count : ℕ) (held holds : Option (List ℕ)) (J : List Entry) → L ≡ lines_of bytes → Replayed L end count held holds J → JournalFits bytes end count J
-journal_fits L bytes end count held holds J e r = let h = subst (λ l. Halted l end r.state count held holds J) e r.halted in
+pub journal_fits : (bytes : List ℕ) (end : Status) (count : ℕ) (held holds : Option (List ℕ)) (J : List Entry) → Replayed (lines_of bytes) end count held holds J → JournalFits bytes end count J
+journal_fits bytes end count held holds J r = let h = r.halted in
     record { lines = h.lines; events = h.events; outs = h.outs; state = r.state; run = run_of (lines_of bytes) end r.state count held holds J h; stops = h.stops }
 
-pub output_exact : (L : List (List ℕ)) (bytes : List ℕ) (end : Status) (count : ℕ) (held holds : Option (List ℕ)) (J : List Entry) → L ≡ lines_of bytes → Replayed L end count held holds J → OutputExact bytes end count J held holds
-output_exact L bytes end count held holds J e r lines events outs t run =
-    writes_of (lines_of bytes) end r.state count held holds J (subst (λ l. Halted l end r.state count held holds J) e r.halted) lines events outs t run
+pub output_exact : (bytes : List ℕ) (end : Status) (count : ℕ) (held holds : Option (List ℕ)) (J : List Entry) → Replayed (lines_of bytes) end count held holds J → OutputExact bytes end count J held holds
+output_exact bytes end count held holds J r lines events outs t run = writes_of (lines_of bytes) end r.state count held holds J r.halted lines events outs t run
 
 pub in_order : (bytes : List ℕ) (count : ℕ) (J : List Entry) → AnswersInOrder bytes count J
 in_order bytes count J lines events outs s r = replies_follow (events ++ Stop ∷ []) J (outs ++ None ∷ []) s r.run
 
-pub first_bad : (L : List (List ℕ)) (bytes : List ℕ) (end : Status) (number count : ℕ) (held holds : Option (List ℕ)) (J : List Entry) → end ≡ status.BadScript number → L ≡ lines_of bytes → Replayed L end count held holds J → IsFirstBad (lines_of bytes) number
-first_bad L bytes end number count held holds J is e r =
-    let h = subst (λ x. Halted (lines_of bytes) x r.state count held holds J) is (subst (λ l. Halted l end r.state count held holds J) e r.halted) in
+pub first_bad : (bytes : List ℕ) (end : Status) (number count : ℕ) (held holds : Option (List ℕ)) (J : List Entry) → end ≡ status.BadScript number → Replayed (lines_of bytes) end count held holds J → IsFirstBad (lines_of bytes) number
+first_bad bytes end number count held holds J is r =
+    let h = subst (λ x. Halted (lines_of bytes) x r.state count held holds J) is r.halted in
     record { lines = h.lines; events = h.events; journal = J; outs = h.outs; state = r.state; reads = h.reads; run = h.run; stops = h.stops }
 
 none_bad : (all : List (List ℕ)) (s : State) (count number : ℕ) (held holds : Option (List ℕ)) (J : List Entry) → Halted all status.Done s count held holds J → IsFirstBad all number → ⊥
@@ -65,9 +65,9 @@ none_bad all s count number held holds J h b =
     let same = same_state through.front b.events ran.journal b.journal ran.outs b.outs ran.state b.state (reads_same b.lines through.front b.events through.reads b.reads) ran.run b.run in
     b.stops.bad.unfit through.event through.is_line (subst (λ (t : State). Fits t through.event) same (step_fits ran.state through.event ran.added ran.out ran.new ran.step))
 
-pub no_bad : (L : List (List ℕ)) (bytes : List ℕ) (end : Status) (count : ℕ) (held holds : Option (List ℕ)) (J : List Entry) → end ≡ status.Done → L ≡ lines_of bytes → Replayed L end count held holds J → (number : ℕ) → IsFirstBad (lines_of bytes) number → ⊥
-no_bad L bytes end count held holds J is e r number b =
-    none_bad (lines_of bytes) r.state count number held holds J (subst (λ x. Halted (lines_of bytes) x r.state count held holds J) is (subst (λ l. Halted l end r.state count held holds J) e r.halted)) b
+pub no_bad : (bytes : List ℕ) (end : Status) (count : ℕ) (held holds : Option (List ℕ)) (J : List Entry) → end ≡ status.Done → Replayed (lines_of bytes) end count held holds J → (number : ℕ) → IsFirstBad (lines_of bytes) number → ⊥
+no_bad bytes end count held holds J is r number b =
+    none_bad (lines_of bytes) r.state count number held holds J (subst (λ x. Halted (lines_of bytes) x r.state count held holds J) is r.halted) b
 
 -- ---- a run that ends before its first line
 
@@ -142,9 +142,9 @@ done_or_short status.InputTooLong lines bad fault = absurd lines
 
 -- what the clause says of the script
 abbrev IsComplete : Status → List ℕ → Type 0
-IsComplete end script = length script ≤ 67108864 → ((line : ℕ) → IsFirstBad (lines_of script) line → ⊥) → IsDone end
+IsComplete end script = length script ≤ MAX_INPUT_BYTES → ((line : ℕ) → IsFirstBad (lines_of script) line → ⊥) → IsDone end
 
-pub complete_lines : (left : Option (List ℕ)) (bytes : List ℕ) (L : List (List ℕ)) (end : Status) (count : ℕ) (held holds : Option (List ℕ)) (J : List Entry) → IfSome left (λ all. all ≡ bytes) → L ≡ lines_of bytes → Replayed L end count held holds J
-    → IsLinesStatus end → (end ≡ status.WriteFault → ⊥) → IfSome left (λ script. length script ≤ 67108864 → ((line : ℕ) → IsFirstBad (lines_of script) line → ⊥) → (end ≡ status.Done) ⊎ (end ≡ status.NoMemory))
-complete_lines left bytes L end count held holds J told e r ends fault =
-    told_bytes left bytes (IsComplete end) told (λ small none. done_or_short end ends (λ number is. none number (first_bad L bytes end number count held holds J is e r)) fault)
+pub complete_lines : (left : Option (List ℕ)) (bytes : List ℕ) (end : Status) (count : ℕ) (held holds : Option (List ℕ)) (J : List Entry) → IfSome left (λ all. all ≡ bytes) → Replayed (lines_of bytes) end count held holds J
+    → IsLinesStatus end → (end ≡ status.WriteFault → ⊥) → IfSome left (λ script. length script ≤ MAX_INPUT_BYTES → ((line : ℕ) → IsFirstBad (lines_of script) line → ⊥) → (end ≡ status.Done) ⊎ (end ≡ status.NoMemory))
+complete_lines left bytes end count held holds J told r ends fault =
+    told_bytes left bytes (IsComplete end) told (λ small none. done_or_short end ends (λ number is. none number (first_bad bytes end number count held holds J is r)) fault)

@@ -1,8 +1,8 @@
 -- What came of an event, from what came of its parts.
 use Rattle.std.proofs.Common.{◌≡◌, ℕ, List, [], ◌∷◌, Option, Some, Ok, Err, refl, subst, sym, true, ap, ◌∙◌}
 use Rattle.std.specs.Prelude.{slice_get, IsSomeAnd}
-use Rattle.engine_core.specs.declared.engine.Entry.{Entry}
-use Rattle.engine_core.specs.declared.engine.Entry.TheVariants.{Alone, Began, Ran, Denied, Ended, Failed}
+use Rattle.engine_core.specs.declared.entries.Entry.{Entry}
+use Rattle.engine_core.specs.declared.entries.Entry.TheVariants.{Alone, Began, Ran, Denied, Ended, Failed}
 use Rattle.engine_core.specs.declared.statement.BoundStmt.{BoundStmt}
 use Rattle.hrana_value.specs.declared.StreamNo.{StreamNo}
 use Rattle.hrana_serve.specs.Messages.{IsMessage}

@@ -1,7 +1,7 @@
 -- How much events add.
 use Rattle.std.proofs.Common.{◌≡◌, ◌+◌, ◌≤◌, List, [], ◌∷◌, ◌++◌, Bool, true, false, Option, None, Some, Result, Ok, Err, length, length-append, arith, ap, ◌∙◌, ◌==◌, refl}
 use Rattle.std.specs.Prelude.{MatchBool, IsSomeAnd}
-use Rattle.engine_core.specs.declared.engine.Entry.{Entry}
+use Rattle.engine_core.specs.declared.entries.Entry.{Entry}
 use Rattle.hrana_stmt.specs.declared.codes.Code.{Code}
 use Rattle.hrana_serve.specs.Checks.{Ready, ready_of}
 use Rattle.hrana_serve.specs.State.{State}

@@ -2,7 +2,7 @@
 use Rattle.std.proofs.Common.{◌≡◌, ℕ, ℤ, List, [], ◌∷◌, ◌++◌, Bool, true, false, Option, None, Some, Result, Ok, Err, length, length-append, arith, subst, ap, sym, ◌∙◌, ◌==◌, refl, append_assoc, append-nil}
 use Rattle.std.specs.Prelude.{MatchBool, IsSomeAnd}
 use Rattle.hrana_stmt.specs.declared.statements.Stmt.{Stmt}
-use Rattle.engine_core.specs.declared.engine.Entry.{Entry}
+use Rattle.engine_core.specs.declared.entries.Entry.{Entry}
 use Rattle.hrana_stmt.specs.declared.codes.Code.{Code}
 use Rattle.hrana_serve.specs.Checks.{Ready, ready_of}
 use Rattle.hrana_serve.specs.State.{State}

@@ -5,9 +5,9 @@ use Rattle.std.specs.Io.KnownBytes.{Keeps, Appends}
 use Rattle.std.proofs.KnownBytes.{Keeps-refl, Appends-nil, Appends-trans, Appends-kept}
 use Rattle.serial_order.specs.Serial.{Meaning}
 use Rattle.engine_core.specs.Bytes.{IsPrefix, AppendsFront}
-use Rattle.engine_core.specs.declared.engine.Answer.{Answer}
+use Rattle.engine_core.specs.declared.entries.Answer.{Answer}
 use Rattle.engine_core.specs.declared.statement.BoundStmt.{BoundStmt}
-use Rattle.engine_core.specs.declared.engine.Entry.{Entry}
+use Rattle.engine_core.specs.declared.entries.Entry.{Entry}
 use Rattle.engine_core.specs.declared.status.Status.TheVariants as status
 use Rattle.hrana_serve.specs.State.{State, first_state}
 use Rattle.hrana_serve.specs.Written.{print, print_out}

@@ -7,10 +7,10 @@ use Rattle.hrana_stmt.proofs.NoFloats.{has_float-result_data, has_float-error_da
 use Rattle.hrana_stmt.specs.Codes.{error_of}
 use Rattle.hrana_stmt.specs.declared.codes.Code.{Code}
 use Rattle.hrana_stmt.specs.declared.codes.Code.TheVariants.{EngineFault, NoMemory}
-use Rattle.engine_core.specs.declared.engine.Entry.{Entry}
-use Rattle.engine_core.specs.declared.engine.Entry.TheVariants.{Alone, Began, Ran, Denied, Ended, Failed}
-use Rattle.engine_core.specs.declared.engine.Answer.TheVariants.{Gave, Refused}
-use Rattle.engine_core.specs.declared.engine.Broken.TheVariants as broken
+use Rattle.engine_core.specs.declared.entries.Entry.{Entry}
+use Rattle.engine_core.specs.declared.entries.Entry.TheVariants.{Alone, Began, Ran, Denied, Ended, Failed}
+use Rattle.engine_core.specs.declared.entries.Answer.TheVariants.{Gave, Refused}
+use Rattle.engine_core.specs.declared.entries.Broken.TheVariants as broken
 use Rattle.hrana_serve.specs.Written.{ok_data, failed_data, opened_data, executed_data, message_of}
 use Rattle.hrana_serve.specs.Means.{reply_data, shown}
 use Rattle.hrana_serve.specs.declared.replies.Out.{Out}

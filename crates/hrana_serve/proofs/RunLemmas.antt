@@ -1,7 +1,7 @@
 -- Events and entries determine a run: its state and its outs.
 use Rattle.std.proofs.Common.{◌≡◌, List, [], ◌∷◌, ◌++◌, Bool, true, false, Option, None, Some, Result, Ok, Err, length, length-append, arith, subst, ap, sym, ◌∙◌, ◌==◌, refl, append_assoc}
 use Rattle.std.specs.Prelude.{MatchBool, IsSomeAnd}
-use Rattle.engine_core.specs.declared.engine.Entry.{Entry}
+use Rattle.engine_core.specs.declared.entries.Entry.{Entry}
 use Rattle.hrana_serve.specs.State.{State}
 use Rattle.hrana_stmt.specs.declared.codes.Code.{Code}
 use Rattle.hrana_serve.specs.Checks.{Ready, ready_of}

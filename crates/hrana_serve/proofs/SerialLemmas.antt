@@ -5,13 +5,13 @@ use Rattle.serial_order.specs.Serial.{Meaning}
 use Rattle.serial_order.specs.Machine.{State as MachineState, start, IsFree, NoWriter, Step as MachineStep, Run as MachineRun}
 use Rattle.engine_core.specs.Engine.{is_read, is_write, is_refusal, IsReadOrWrite}
 use Rattle.engine_core.specs.Journal.{entry_of, broken_of}
-use Rattle.engine_core.specs.declared.engine.Answer.{Answer}
-use Rattle.engine_core.specs.declared.engine.Answer.TheVariants.{Gave, Refused}
+use Rattle.engine_core.specs.declared.entries.Answer.{Answer}
+use Rattle.engine_core.specs.declared.entries.Answer.TheVariants.{Gave, Refused}
 use Rattle.engine_core.specs.declared.statement.BoundStmt.{BoundStmt}
 use Rattle.sql_text.specs.declared.class.Class.{Class}
 use Rattle.sql_text.specs.declared.class.Class.TheVariants as class
-use Rattle.engine_core.specs.declared.engine.Entry.{Entry}
-use Rattle.engine_core.specs.declared.engine.Entry.TheVariants.{Alone, Began, Ran, Denied, Ended, Failed}
+use Rattle.engine_core.specs.declared.entries.Entry.{Entry}
+use Rattle.engine_core.specs.declared.entries.Entry.TheVariants.{Alone, Began, Ran, Denied, Ended, Failed}
 use Rattle.hrana_serve.specs.Means.{IsEntryOf, wrote_of}
 use Rattle.hrana_stmt.specs.declared.codes.Code.{Code}
 use Rattle.hrana_serve.specs.Checks.{Ready, ready_of}

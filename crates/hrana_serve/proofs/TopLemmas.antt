@@ -6,6 +6,10 @@ use Rattle.std.proofs.lemmas.Bool.Decides.{Decides-eqb}
 use Rattle.std.proofs.lemmas.Slice.Eq.{slice_eq-Decides}
 use Rattle.hrana_serve.specs.Top.{IsReplay}
 
+-- what an index past the end gives
+abbrev pub no_bytes : Bor (List ℕ)
+no_bytes = record { ref_ptr = (0, 0); now = [] }
+
 one_word : (ws : List (Bor (List ℕ))) (d : Bor (List ℕ)) → length ws ≡ 1 → map (λ w. w.now) ws ≡ (get_or ws 0 d).now ∷ []
 one_word [] d h = absurd (omega arith)
 one_word (w ∷ []) d h = refl

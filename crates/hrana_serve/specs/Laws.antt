@@ -1,6 +1,6 @@
 -- Laws over whole runs.
 use Rattle.std.specs.Prelude.{◌≡◌, ◌≤◌, ◌+◌, ℕ, List, Option, length}
-use Rattle.engine_core.specs.declared.engine.Entry.{Entry}
+use Rattle.engine_core.specs.declared.entries.Entry.{Entry}
 use Rattle.hrana_serve.specs.State.{State}
 use Rattle.hrana_serve.specs.Script.{IsLineOf}
 use Rattle.hrana_serve.specs.Messages.{IsMessage}

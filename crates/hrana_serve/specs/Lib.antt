@@ -1,6 +1,7 @@
 pub mod Checks
 pub mod InOrder
 pub mod Laws
+pub mod Lines
 pub mod Messages
 pub mod Means
 pub mod Replay

@@ -7,12 +7,12 @@ use Rattle.hrana_stmt.specs.declared.results.StmtResult.{StmtResult}
 use Rattle.engine_core.specs.declared.statement.BoundStmt.{BoundStmt}
 use Rattle.sql_text.specs.declared.class.Class.{Class}
 use Rattle.sql_text.specs.declared.class.Class.TheVariants as class
-use Rattle.engine_core.specs.declared.engine.Entry.{Entry}
-use Rattle.engine_core.specs.declared.engine.Entry.TheVariants.{Alone, Began, Ran, Denied, Ended, Failed}
-use Rattle.engine_core.specs.declared.engine.Answer.{Answer}
-use Rattle.engine_core.specs.declared.engine.Answer.TheVariants.{Gave, Refused}
-use Rattle.engine_core.specs.declared.engine.Broken.{Broken}
-use Rattle.engine_core.specs.declared.engine.Broken.TheVariants as broken
+use Rattle.engine_core.specs.declared.entries.Entry.{Entry}
+use Rattle.engine_core.specs.declared.entries.Entry.TheVariants.{Alone, Began, Ran, Denied, Ended, Failed}
+use Rattle.engine_core.specs.declared.entries.Answer.{Answer}
+use Rattle.engine_core.specs.declared.entries.Answer.TheVariants.{Gave, Refused}
+use Rattle.engine_core.specs.declared.entries.Broken.{Broken}
+use Rattle.engine_core.specs.declared.entries.Broken.TheVariants as broken
 use Rattle.hrana_serve.specs.Checks.{Ready, IsReady}
 use Rattle.hrana_serve.specs.Written.{ok_data, failed_data, executed_data, message_of}
 use Rattle.hrana_serve.specs.declared.ask.Asked.{Asked}

@@ -1,6 +1,6 @@
 -- A run: events one after another, from the state before the first.
 use Rattle.std.specs.Prelude.{◌≡◌, ℕ, List, [], ◌∷◌, ◌++◌, Option}
-use Rattle.engine_core.specs.declared.engine.Entry.{Entry}
+use Rattle.engine_core.specs.declared.entries.Entry.{Entry}
 use Rattle.hrana_serve.specs.State.{State, first_state}
 use Rattle.hrana_serve.specs.Script.{IsLineOf}
 use Rattle.hrana_serve.specs.Step.{Step, Fits}

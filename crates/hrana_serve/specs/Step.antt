@@ -6,7 +6,7 @@ use Rattle.hrana_stmt.specs.declared.statements.SqlRef.{SqlRef}
 use Rattle.hrana_stmt.specs.declared.statements.SqlRef.TheVariants as sql
 use Rattle.hrana_stmt.specs.declared.codes.Code.{Code}
 use Rattle.sql_text.specs.Class.{class_of_text}
-use Rattle.engine_core.specs.declared.engine.Entry.{Entry}
+use Rattle.engine_core.specs.declared.entries.Entry.{Entry}
 use Rattle.hrana_serve.specs.Messages.{IsMessage}
 use Rattle.hrana_serve.specs.Checks.{Ready, ready_of, is_transaction}
 use Rattle.hrana_serve.specs.Means.{IsEntryOf, reply_of, refusal_of}

@@ -1,7 +1,7 @@
 -- What the top call says.
 use Rattle.std.specs.Prelude.{◌≡◌, ℕ, List, [], ◌∷◌, ◌++◌, codes, Option, None}
 use Rattle.engine_core.specs.Bytes.{lines_of}
-use Rattle.engine_core.specs.declared.engine.Entry.{Entry}
+use Rattle.engine_core.specs.declared.entries.Entry.{Entry}
 use Rattle.engine_core.specs.declared.status.Status.{Status}
 use Rattle.hrana_serve.specs.State.{State}
 use Rattle.hrana_serve.specs.Run.{Run, ReadsAs}

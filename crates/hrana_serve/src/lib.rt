@@ -6,6 +6,7 @@ mod checked;
 mod checks;
 mod hub;
 mod laws;
+mod lines;
 mod message;
 mod replay;
 mod replies;

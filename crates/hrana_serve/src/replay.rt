@@ -1,5 +1,6 @@
 // The lines of a script, one after another.
-ghost use Rattle.std.specs.Prelude.{◌≡◌, ◌<◌, ◌≤◌, ◌-◌, ◌^◌, length, map, []};
+ghost use Rattle.std.specs.Prelude.{◌≡◌, ◌<◌, ◌≤◌, ◌-◌, ◌^◌, length, []};
+ghost use Rattle.engine_core.specs.Bytes.{lines_of};
 ghost use Rattle.engine_core.specs.Causes.{Rose};
 ghost use Rattle.engine_core.specs.Transactions.{NoneLive};
 ghost use Rattle.hrana_serve.specs.State.{first_state};
@@ -7,6 +8,7 @@ ghost use Rattle.hrana_serve.specs.Stepped.{Adds};
 ghost use Rattle.hrana_serve.specs.Replay.{PlaysAs, Halted, Replayed, IsLinesStatus};
 
 use crate::hub::{Hub, Stepped};
+use crate::lines::next_line;
 use crate::replies::line_of_out;
 use crate::script::{Event, LineFail, event_of_line};
 use engine_core::{Engine, Entries, Sink, Status, write_all};
@@ -78,10 +80,10 @@ pub struct Halt {
     pub events: u64,
 }
 
-/// Plays the lines up to their end or the first that stops the run.
+/// Plays the lines of a script up to their end or the first that stops the run.
 fn play_lines<E: Engine, O: Sink>(
     alloc: Global,
-    lines: &[&[u8]],
+    script: &[u8],
     hub: &mut Hub,
     engine: &mut E,
     entries: &mut Entries,
@@ -92,7 +94,7 @@ fn play_lines<E: Engine, O: Sink>(
     requires none { entries.old.list ≡ [] }
     requires first { entries.old.next ≡ 1 }
     ensures adds { Adds E.told E.meaning (E.db engine.old) (E.db engine.new) (E.faults engine.old) (E.faults engine.new)
-        [] entries.new.list (Halted (map (λ line. line.now) lines.now) result.status hub.new result.events (O.written sink.old) (O.written sink.new)) }
+        [] entries.new.list (Halted (lines_of script.now) result.status hub.new result.events (O.written sink.old) (O.written sink.new)) }
     ensures next { entries.new.next ≡ 1 }
     ensures ends { IsLinesStatus result.status }
     ensures write { result.status ≡ Status.WriteFault → Rose (O.faults sink.old) (O.faults sink.new) }
@@ -101,7 +103,12 @@ fn play_lines<E: Engine, O: Sink>(
     ensures quiet { NoneLive (E.live engine.new) }
 {
     let mut events: u64 = 0;
-    for (at, line) in lines.iter().enumerate() {
+    let mut at: u64 = 0;
+    let mut left = Some(script);
+    while let Some(bytes) = left {
+        let (line, after) = next_line(bytes);
+        left = after;
+        at += 1;
         if line.is_empty() {
             continue;
         }
@@ -109,9 +116,7 @@ fn play_lines<E: Engine, O: Sink>(
             LineEnd::Played => events += 1,
             LineEnd::Bad => {
                 return Halt {
-                    status: Status::BadScript {
-                        line: at as u64 + 1,
-                    },
+                    status: Status::BadScript { line: at },
                     events,
                 };
             }
@@ -141,10 +146,10 @@ fn play_lines<E: Engine, O: Sink>(
     }
 }
 
-/// Plays the lines over a new hub, and then `Stop`, whatever stopped the lines.
+/// Plays the lines of a script over a new hub, and then `Stop`, whatever stopped the lines.
 pub fn play<E: Engine, O: Sink>(
     alloc: Global,
-    lines: &[&[u8]],
+    script: &[u8],
     engine: &mut E,
     entries: &mut Entries,
     sink: &mut O,
@@ -153,7 +158,7 @@ pub fn play<E: Engine, O: Sink>(
     requires none { entries.old.list ≡ [] }
     requires first { entries.old.next ≡ 1 }
     ensures adds { Adds E.told E.meaning (E.db engine.old) (E.db engine.new) (E.faults engine.old) (E.faults engine.new)
-        [] entries.new.list (Replayed (map (λ line. line.now) lines.now) result.status result.events (O.written sink.old) (O.written sink.new)) }
+        [] entries.new.list (Replayed (lines_of script.now) result.status result.events (O.written sink.old) (O.written sink.new)) }
     ensures ends { IsLinesStatus result.status }
     ensures write { result.status ≡ Status.WriteFault → Rose (O.faults sink.old) (O.faults sink.new) }
     ensures later { O.faults sink.old ≤ O.faults sink.new }
@@ -161,7 +166,7 @@ pub fn play<E: Engine, O: Sink>(
     ensures quiet { NoneLive (E.live engine.new) }
 {
     let mut hub = Hub::new(alloc);
-    let halt = play_lines(alloc, lines, &mut hub, engine, entries, sink);
+    let halt = play_lines(alloc, script, &mut hub, engine, entries, sink);
     let _stopped = hub.step(engine, entries, Event::Stop);
     halt
 }

@@ -1,5 +1,5 @@
 // The top call.
-ghost use Rattle.std.specs.Prelude.{◌≡◌, ◌↔◌, ◌<◌, ◌≤◌, ◌⊎◌, ℕ, [], length, map, IfSome, IsTrue, IfOk};
+ghost use Rattle.std.specs.Prelude.{◌≡◌, ◌↔◌, ◌<◌, ◌≤◌, ◌⊎◌, ℕ, [], length, map, IfSome, IsTrue};
 ghost use Rattle.serial_order.specs.Serial.{serial, last_database};
 ghost use Rattle.serial_order.specs.Explained.{Explained};
 ghost use Rattle.engine_core.specs.Bytes.{lines_of};
@@ -11,10 +11,11 @@ ghost use Rattle.hrana_serve.specs.Top.{IsReplay, JournalFits, OutputExact, Answ
 
 use crate::replay::play;
 use engine_core::{
-    Answer, BoundStmt, Engine, Entries, Entry, ReadAllFail, Sink, Source, Status, read_all,
+    Answer, BoundStmt, Engine, Entries, Entry, MAX_INPUT_BYTES, ReadAllFail, Sink, Source, Status,
+    read_all,
 };
 use serial_order::serial_order;
-use std::alloc::{AllocError, Global};
+use std::alloc::Global;
 
 /// What the program runs over.
 #[derive(Drop)]
@@ -30,12 +31,6 @@ pub struct Ended {
     pub status: Status,
     pub unsaved: Vec<Entry>,
     pub events: u64,
-}
-
-fn cut_lines<'a>(alloc: Global, bytes: &'a [u8]) -> Result<Vec<&'a [u8]>, AllocError>
-    ensures { IfOk result (λ lines. map (λ line. line.now) lines.items ≡ lines_of bytes.now) }
-{
-    bytes.split(|byte| *byte == 10).collect(alloc)
 }
 
 fn is_replay(words: &[&str]) -> bool
@@ -87,11 +82,11 @@ pub fn hrana<I: Source, O: Sink, E: Engine>(
     ensures bad_words { (result.status ≡ Status.BadWords) ↔ ¬ (IsReplay (map (λ word. word.now) words.now)) }
     ensures bad_script { (line : ℕ) → result.status ≡ Status.BadScript line → IfSome (I.left world.old.source) (λ script. IsFirstBad (lines_of script) line) }
     ensures done { result.status ≡ Status.Done → IfSome (I.left world.old.source) (λ script. (line : ℕ) → IsFirstBad (lines_of script) line → ⊥) }
-    ensures input_too_long { IsReplay (map (λ word. word.now) words.now) → IfSome (I.left world.old.source) (λ _. (result.status ≡ Status.InputTooLong) ↔ (67108864 < given_count (I.left world.old.source) (I.left world.new.source))) }
+    ensures input_too_long { IsReplay (map (λ word. word.now) words.now) → IfSome (I.left world.old.source) (λ _. (result.status ≡ Status.InputTooLong) ↔ (MAX_INPUT_BYTES < given_count (I.left world.old.source) (I.left world.new.source))) }
     ensures read_fault { result.status ≡ Status.ReadFault → Rose (I.faults world.old.source) (I.faults world.new.source) }
     ensures write_fault { result.status ≡ Status.WriteFault → Rose (O.faults world.old.sink) (O.faults world.new.sink) }
     ensures complete { IsReplay (map (λ word. word.now) words.now) → (Rose (I.faults world.old.source) (I.faults world.new.source) → ⊥) → (Rose (O.faults world.old.sink) (O.faults world.new.sink) → ⊥)
-        → IfSome (I.left world.old.source) (λ script. length script ≤ 67108864 → ((line : ℕ) → IsFirstBad (lines_of script) line → ⊥) → (result.status ≡ Status.Done) ⊎ (result.status ≡ Status.NoMemory)) }
+        → IfSome (I.left world.old.source) (λ script. length script ≤ MAX_INPUT_BYTES → ((line : ℕ) → IsFirstBad (lines_of script) line → ⊥) → (result.status ≡ Status.Done) ⊎ (result.status ≡ Status.NoMemory)) }
     ensures engine_faults { RoseBy (fault_count result.unsaved.items) (E.faults world.old.engine) (E.faults world.new.engine) }
 {
     serial_order::<E::Db, BoundStmt, Answer>();
@@ -104,15 +99,12 @@ pub fn hrana<I: Source, O: Sink, E: Engine>(
         Err(ReadAllFail::TooLong) => return at_once(alloc, Status::InputTooLong),
         Err(ReadAllFail::NoMemory) => return at_once(alloc, Status::NoMemory),
     };
-    let Ok(lines) = cut_lines(alloc, bytes.as_slice()) else {
-        return at_once(alloc, Status::NoMemory);
-    };
     let Ok(mut entries) = Entries::new(alloc) else {
         return at_once(alloc, Status::NoMemory);
     };
     let halt = play(
         alloc,
-        lines.as_slice(),
+        bytes.as_slice(),
         &mut world.engine,
         &mut entries,
         &mut world.sink,

@@ -8,7 +8,7 @@ use Rattle.std.proofs.lemmas.Iterator.Adapters.{position_from-zero}
 use Rattle.std.proofs.lemmas.List.{take_all, take_more, length-set, length-take-le}
 use Rattle.std.proofs.lemmas.Option.{get_or_from_slice_get}
 use Rattle.std.proofs.Math.Seq.{map-set_same, take-append_seam}
-use Rattle.engine_core.specs.declared.engine.Answer.{Answer}
+use Rattle.engine_core.specs.declared.entries.Answer.{Answer}
 use Rattle.engine_core.specs.declared.engine.EngineFail.{EngineFail}
 use Rattle.engine_core.specs.declared.engine.EngineFail.TheVariants as fail
 use Rattle.engine_core.specs.declared.statement.BoundStmt.{BoundStmt}

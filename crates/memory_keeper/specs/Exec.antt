@@ -15,8 +15,8 @@ use Rattle.keeper_dialect.specs.Query.{query_of}
 use Rattle.keeper_dialect.specs.Reads.{is_select}
 use Rattle.engine_core.specs.Engine.{is_read, is_engine_code}
 use Rattle.engine_core.specs.Transactions.{Single}
-use Rattle.engine_core.specs.declared.engine.Answer.{Answer}
-use Rattle.engine_core.specs.declared.engine.Answer.TheVariants.{Gave, Refused}
+use Rattle.engine_core.specs.declared.entries.Answer.{Answer}
+use Rattle.engine_core.specs.declared.entries.Answer.TheVariants.{Gave, Refused}
 use Rattle.engine_core.specs.declared.engine.EngineFail.{EngineFail}
 use Rattle.engine_core.specs.declared.engine.EngineFail.TheVariants as fail
 use Rattle.engine_core.specs.declared.statement.BoundStmt.{BoundStmt}

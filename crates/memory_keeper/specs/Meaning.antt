@@ -10,7 +10,7 @@ use Rattle.keeper_dialect.specs.declared.query.Query.TheVariants.{Create, Insert
 use Rattle.keeper_dialect.specs.Query.{query_of}
 use Rattle.keeper_dialect.specs.Reads.{is_select}
 use Rattle.engine_core.specs.Engine.{is_read, is_write, is_refusal}
-use Rattle.engine_core.specs.declared.engine.Answer.{Answer}
+use Rattle.engine_core.specs.declared.entries.Answer.{Answer}
 use Rattle.engine_core.specs.declared.statement.BoundStmt.{BoundStmt}
 use Rattle.keeper_formulas.specs.declared.fail.Refusal.{Refusal}
 use Rattle.keeper_formulas.specs.declared.fail.Refusal.TheVariants.{Syntax}

@@ -1,6 +1,5 @@
-use Rattle.std.proofs.Common.{◌≡◌, map, sym, ◌∙◌, rules}
+use Rattle.std.proofs.Common.{◌≡◌, sym, ◌∙◌, rules}
 use Rattle.serial_order.specs.Machine.{start}
-use Rattle.engine_core.specs.Bytes.{lines_of}
 use Rattle.hrana_serve.proofs.EndLemmas.{bad_words_at_once, read_fault_at_once, too_long_at_once, no_memory_at_once, once_fits, once_exact, once_last, always_in_order, complete_lines, journal_fits, output_exact, no_bad}
 use Rattle.hrana_serve.proofs.SerialLemmas.{from_start, kept_run}
 use Rattle.hrana_serve.proofs.TopLemmas.{told_bytes}
@@ -57,18 +56,6 @@ returns-in_default-clause-replies_in_order g c = always_in_order _ _ _
 pub returns-in_default-clause-output_exact : goal.returns-in_default-clause-output_exact
 returns-in_default-clause-output_exact g c = let a = c.at_once-in_default in once_exact _ _ _ _ _ a.ensures.status a.ensures.unsaved a.ensures.events no_memory_at_once _
 
-pub returns-in_default-new-clause-journal_fits : goal.returns-in_default-new-clause-journal_fits
-returns-in_default-new-clause-journal_fits g c = let a = c.at_once-in_default-new in once_fits _ _ _ _ _ a.ensures.status a.ensures.unsaved a.ensures.events no_memory_at_once
-
-pub returns-in_default-new-clause-last_database : goal.returns-in_default-new-clause-last_database
-returns-in_default-new-clause-last_database g c = λ _. once_last _ _ _ c.at_once-in_default-new.ensures.unsaved (c.serial_order.ensures.database _ _ _ _ (c.serial_order.ensures.run_none _ (start _)))
-
-pub returns-in_default-new-clause-replies_in_order : goal.returns-in_default-new-clause-replies_in_order
-returns-in_default-new-clause-replies_in_order g c = always_in_order _ _ _
-
-pub returns-in_default-new-clause-output_exact : goal.returns-in_default-new-clause-output_exact
-returns-in_default-new-clause-output_exact g c = let a = c.at_once-in_default-new in once_exact _ _ _ _ _ a.ensures.status a.ensures.unsaved a.ensures.events no_memory_at_once _
-
 pub returns-clause-replies_in_order : goal.returns-clause-replies_in_order
 returns-clause-replies_in_order g c = always_in_order _ _ _
 
@@ -76,8 +63,9 @@ returns-clause-replies_in_order g c = always_in_order _ _ _
 pub returns-clause-journal_fits : goal.returns-clause-journal_fits
 returns-clause-journal_fits g c =
     let a = c.play-halt.ensures.adds in
-    let e : map (λ line. line.now) c.as_slice-2.result.now ≡ lines_of c.in-Ok.bytes.items = search rules in
-    told_bytes _ _ _ c.in-Ok.ensures.whole (rw (c.into_vec.ensures ∙ a.grew) (journal_fits _ c.in-Ok.bytes.items _ _ _ _ _ e a.holds))
+    let e : c.as_slice.result.now ≡ c.in-Ok.bytes.items = search rules in
+    let r = rw e at a.holds in
+    told_bytes _ _ _ c.in-Ok.ensures.whole (rw (c.into_vec.ensures ∙ a.grew) (journal_fits c.in-Ok.bytes.items _ _ _ _ _ r))
 
 pub returns-clause-serial_explains : goal.returns-clause-serial_explains
 returns-clause-serial_explains g c = λ t.
@@ -96,17 +84,20 @@ returns-clause-last_database g c = λ t.
 pub returns-clause-output_exact : goal.returns-clause-output_exact
 returns-clause-output_exact g c =
     let a = c.play-halt.ensures.adds in
-    let e : map (λ line. line.now) c.as_slice-2.result.now ≡ lines_of c.in-Ok.bytes.items = search rules in
-    told_bytes _ _ _ c.in-Ok.ensures.whole (rw (c.into_vec.ensures ∙ a.grew) (output_exact _ c.in-Ok.bytes.items _ _ _ _ _ e a.holds))
+    let e : c.as_slice.result.now ≡ c.in-Ok.bytes.items = search rules in
+    let r = rw e at a.holds in
+    told_bytes _ _ _ c.in-Ok.ensures.whole (rw (c.into_vec.ensures ∙ a.grew) (output_exact c.in-Ok.bytes.items _ _ _ _ _ r))
 
 pub returns-clause-done : goal.returns-clause-done
 returns-clause-done g c = λ is.
     let a = c.play-halt.ensures.adds in
-    let e : map (λ line. line.now) c.as_slice-2.result.now ≡ lines_of c.in-Ok.bytes.items = search rules in
-    told_bytes _ _ _ c.in-Ok.ensures.whole (no_bad _ c.in-Ok.bytes.items _ _ _ _ _ is e a.holds)
+    let e : c.as_slice.result.now ≡ c.in-Ok.bytes.items = search rules in
+    let r = rw e at a.holds in
+    told_bytes _ _ _ c.in-Ok.ensures.whole (no_bad c.in-Ok.bytes.items _ _ _ _ _ is r)
 
 pub returns-clause-complete : goal.returns-clause-complete
 returns-clause-complete g c = λ _ _ fault.
     let a = c.play-halt.ensures.adds in
-    let e : map (λ line. line.now) c.as_slice-2.result.now ≡ lines_of c.in-Ok.bytes.items = search rules in
-    complete_lines _ c.in-Ok.bytes.items _ _ _ _ _ _ c.in-Ok.ensures.whole e a.holds c.play-halt.ensures.ends (λ is. fault (c.play-halt.ensures.write is))
+    let e : c.as_slice.result.now ≡ c.in-Ok.bytes.items = search rules in
+    let r = rw e at a.holds in
+    complete_lines _ c.in-Ok.bytes.items _ _ _ _ _ c.in-Ok.ensures.whole r c.play-halt.ensures.ends (λ is. fault (c.play-halt.ensures.write is))

@@ -1,6 +1,5 @@
 use Rattle.std.proofs.Common.{arith}
-use Rattle.hrana_serve.proofs.TopLemmas.{replay_word}
-use Rattle.hrana_serve.proofs.LineLemmas.{no_bytes}
+use Rattle.hrana_serve.proofs.TopLemmas.{replay_word, no_bytes}
 use Rattle.hrana_serve.proofs.top.is_replay.Goals as goal
 
 pub returns-in-len1 : goal.returns-in-len1

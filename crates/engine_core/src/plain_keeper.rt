@@ -6,16 +6,10 @@ ghost use Rattle.engine_core.specs.Results.{value_size, IsSmall};
 ghost use Rattle.engine_core.specs.Transactions.{NoneLive, lives_of};
 ghost use Rattle.engine_core.specs.PlainMeaning.{plain_meaning};
 
-use crate::{BoundStmt, Class, Engine, EngineFail};
+use crate::{BoundStmt, Class, Engine, EngineFail, MAX_RESULT_BYTES, MAX_ROWS};
 use hrana_stmt::{Code, Col, Cols, Rows, StmtResult};
 use hrana_value::{NoMemory, Txt, Value, Values};
 use std::alloc::Global;
-
-/// The most rows of a result.
-const MAX_ROWS: usize = 4096;
-
-/// The most bytes of a result's values: a null and an integer count 8, a text and a blob 8 and their length.
-const MAX_SIZE: usize = 1048576;
 
 const MAX_ROWID: usize = 9223372036854775806;
 
@@ -99,12 +93,8 @@ fn insert(alloc: Global, column: &mut Values, values: &[Value]) -> Result<StmtRe
         return Err(EngineFail::Refused(Code::Overflow));
     }
     let rowid = column.as_slice().len() + 1;
-    let Ok(value) = value_of(alloc, values) else {
-        return Err(EngineFail::NoMemory);
-    };
-    if column.push(value).is_err() {
-        return Err(EngineFail::NoMemory);
-    }
+    let value = value_of(alloc, values)?;
+    column.push(value)?;
     Ok(StmtResult {
         cols: Cols::new(alloc),
         rows: Rows::new(alloc),
@@ -135,7 +125,7 @@ fn fits(column: &[Value]) -> bool
     let mut size = 0;
     for value in column {
         size += size_of_value(value);
-        if size > MAX_SIZE {
+        if size > MAX_RESULT_BYTES {
             return false;
         }
     }
@@ -183,10 +173,7 @@ fn select(alloc: Global, column: &[Value]) -> Result<StmtResult, EngineFail>
     if !fits(column) {
         return Err(EngineFail::Refused(Code::ResultTooLarge));
     }
-    match result_of(alloc, column) {
-        Ok(given) => Ok(given),
-        Err(_) => Err(EngineFail::NoMemory),
-    }
+    Ok(result_of(alloc, column)?)
 }
 
 /// Runs the statement that a text is.
@@ -239,12 +226,9 @@ impl Engine for PlainKeeper {
     ghost refusals = { λ _. refl };
 
     fn begin(&mut self, txn: u64, write: bool) -> Result<(), EngineFail> {
-        let Ok(column) = self.column.copy(self.alloc) else {
-            return Err(EngineFail::NoMemory);
-        };
         self.running = Some(Running {
             txn,
-            column,
+            column: self.column.copy(self.alloc)?,
             writes: write,
         });
         Ok(())

@@ -1,0 +1,79 @@
+// The entries of a run that no journal took yet.
+ghost use Rattle.std.specs.Prelude.{◌≡◌, ◌+◌, ◌-◌, ◌^◌, ◌<◌, ◌≤◌, [], ◌∷◌, ◌++◌, IfOk, OnOk};
+ghost use Rattle.engine_core.specs.Noted.{Noted, next_after, IsNumbered};
+
+use crate::Entry;
+use hrana_value::NoMemory;
+use std::alloc::Global;
+use std::marker::Model;
+
+/// The entries of a run that no journal took yet, with places that are ready for more. Contracts see the list, the
+/// number of spare places, and the number that the next unit takes.
+#[derive(Drop)]
+pub struct Entries {
+    items: Vec<Entry>,
+    next: u64,
+}
+
+impl Model for Entries {
+    ghost use Rattle.std.specs.Prelude.{◌-◌, vec_capacity, vec_len};
+    ghost use Rattle.engine_core.specs.Noted.{Noted};
+
+    ghost Value = { Noted };
+
+    ghost view = { λ e. record { list = e.items.items; spare = vec_capacity e.items - vec_len e.items; next = e.next } };
+}
+
+impl Entries {
+    pub fn new(alloc: Global) -> Result<Entries, NoMemory>
+        ensures list { IfOk result (λ entries. entries.list ≡ []) }
+        ensures next { IfOk result (λ entries. entries.next ≡ 1) }
+    {
+        Ok(Entries {
+            items: Vec::new(alloc),
+            next: 1,
+        })
+    }
+
+    /// Makes the spare places at least `places`.
+    pub fn reserve(&mut self, places: usize) -> Result<(), NoMemory>
+        ensures list { self.new.list ≡ self.old.list }
+        ensures next { self.new.next ≡ self.old.next }
+        ensures places { OnOk result (places ≤ self.new.spare) }
+    {
+        self.items.reserve(places)?;
+        Ok(())
+    }
+
+    /// Adds an entry in a place that was reserved.
+    pub fn push(&mut self, entry: Entry)
+        requires room { 0 < self.old.spare }
+        requires unit { IsNumbered self.old.next entry }
+        ensures list { self.new.list ≡ self.old.list ++ entry ∷ [] }
+        ensures spare { self.new.spare + 1 ≡ self.old.spare }
+        ensures next { self.new.next ≡ next_after self.old.next entry }
+    {
+        match entry {
+            Entry::Began { .. } => {
+                self.next += 1;
+            }
+            _ => {}
+        }
+        self.items.push_reserved(entry);
+    }
+
+    /// The number of the next unit: one more than the units that began.
+    pub fn next_unit(&self) -> u64
+        ensures { result ≡ self.now.next }
+    {
+        self.next
+    }
+
+    /// The entries, in the order in which they were added.
+    pub fn into_vec(self) -> Vec<Entry>
+        ensures { result.items ≡ self.list }
+    {
+        let Entries { items, next: _ } = self;
+        items
+    }
+}
