@@ -33,7 +33,7 @@ pub fn with_item<T: Drop>(
             Ok(()) => Ok(items),
             Err(_) => Err(ReadFail::NoMemory),
         },
-        (Ok(_), Err(fail)) => Err(fail),
+        (Ok(_), Err(other)) => Err(other),
         (Err(fail), Ok(_)) => Err(fail),
         (Err(fail), Err(other)) => Err(fail.earlier(other)),
     }
