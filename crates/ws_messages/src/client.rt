@@ -7,7 +7,7 @@ ghost use Rattle.hrana_value.specs.Declines.{NoneStands};
 ghost use Rattle.hrana_value.specs.Members.{HasText};
 ghost use Rattle.hrana_value.specs.declared.failures.Decline.{Decline};
 ghost use Rattle.ws_messages.specs.declared.messages.Why.{Why};
-ghost use Rattle.ws_messages.specs.Client.{ClientTree, ClientStands, ClientDeclines, ClientViolates, ClientFits, IsClientText, IsDeclinedRequest, BreaksAsClient, NoTreeIsTwoClientMessages, FittingClientMessagesAreRead, NoTextHasTwoClientAnswers};
+ghost use Rattle.ws_messages.specs.Client.{ClientTree, ClientStands, ClientDeclines, ClientViolates, HasClientForm, ClientFits, IsClientText, IsDeclinedRequest, BreaksAsClient, NoTreeIsTwoClientMessages, FittingClientMessagesAreRead, NoTextHasTwoClientAnswers};
 ghost use Rattle.ws_messages.specs.WrittenClient.{request_object, client_data, ClientReadsBack};
 
 use crate::request_json::request_of_json;
@@ -141,8 +141,9 @@ fn client_to_json(alloc: Global, msg: &ClientMsg) -> Result<Json, NoMemory>
 }
 
 /// Writes a message of a client, compact and with its members in byte order. What is absent is left out, but a token
-/// that is absent is null.
+/// that is absent is null. What is asked of a stream is to be what a request may ask it.
 pub fn encode_client(alloc: Global, msg: &ClientMsg) -> Result<Txt, NoMemory>
+    requires { HasClientForm msg.now }
     ensures written { IfOk result (λ text. text ≡ compact_text (client_data msg.now)) }
     ensures reads_back { IfOk result (λ text. ClientFits msg.now → IsClientText text msg.now) }
 {

@@ -6,7 +6,7 @@ ghost use Rattle.hrana_value.specs.Members.{HasText};
 ghost use Rattle.hrana_value.specs.declared.failures.Decline.{Decline};
 ghost use Rattle.ws_messages.specs.declared.messages.Why.{Why};
 ghost use Rattle.ws_messages.specs.Failures.{rest_failure};
-ghost use Rattle.ws_messages.specs.Server.{ServerTree, ServerDeclines, ServerViolates, ServerFits, IsServerText, IsDeclinedReply, BreaksAsServer, NoTreeIsTwoServerMessages, ServerMessagesAreRead, NoTextHasTwoServerAnswers};
+ghost use Rattle.ws_messages.specs.Server.{ServerTree, ServerDeclines, ServerViolates, HasServerForm, IsServerText, IsDeclinedReply, BreaksAsServer, NoTreeIsTwoServerMessages, ServerMessagesAreRead, NoTextHasTwoServerAnswers};
 ghost use Rattle.ws_messages.specs.WrittenServer.{server_data, ServerReadsBack};
 
 use crate::response_json::{response_of_json, response_to_json};
@@ -183,11 +183,12 @@ fn server_to_json(alloc: Global, msg: &ServerMsg) -> Result<Json, NoMemory>
     }
 }
 
-/// Writes a message of the server, compact and with its members in byte order. What is absent is null. A reply is
-/// written under the `type` of the kind; what has not the form of its kind is no message.
+/// Writes a message of the server, compact and with its members in byte order. What is absent is null. A reply is to
+/// have the form of its kind.
 pub fn encode_server(alloc: Global, msg: &ServerMsg) -> Result<Txt, NoMemory>
+    requires { HasServerForm msg.now }
     ensures written { IfOk result (λ text. text ≡ compact_text (server_data msg.now)) }
-    ensures reads_back { IfOk result (λ text. ServerFits msg.now → IsServerText text msg.now) }
+    ensures reads_back { IfOk result (λ text. IsServerText text msg.now) }
 {
     let json = server_to_json(alloc, msg)?;
     Ok(Txt::from_string(json.to_string(alloc)?))
