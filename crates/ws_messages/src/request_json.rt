@@ -30,19 +30,20 @@ fn on_stream_of_json(alloc: Global, kind: AskKind, json: &Json) -> Result<WsRequ
     requires { IsStreamAsk kind }
     ensures { Reads (λ r. IsRequestOf (kind_of kind) r (view json.now)) (OnStreamStands kind (view json.now)) result }
 {
-    match asked_of_parts(alloc, kind, member(json, "stream_id", &Json::Null), json) {
-        Ok((stream_id, ask)) => Ok(WsRequest::OnStream { stream_id, ask }),
-        Err(fail) => Err(fail),
-    }
+    let (stream_id, ask) = asked_of_parts(
+        alloc,
+        kind,
+        member(json, "stream_id", &Json::Null),
+        json,
+    )?;
+    Ok(WsRequest::OnStream { stream_id, ask })
 }
 
 fn open_stream_of_json(json: &Json) -> Result<WsRequest, ReadFail>
     ensures { Reads (λ r. IsRequestOf Kind.OpenStream r (view json.now)) (RequestMembersStand Kind.OpenStream (view json.now)) result }
 {
-    match int32_of_json(member(json, "stream_id", &Json::Null)) {
-        Ok(stream_id) => Ok(WsRequest::OpenStream(stream_id)),
-        Err(fail) => Err(fail),
-    }
+    let stream_id = int32_of_json(member(json, "stream_id", &Json::Null))?;
+    Ok(WsRequest::OpenStream(stream_id))
 }
 
 fn ids_of_parts(stream: &Json, cursor: &Json) -> Result<(i32, i32), ReadFail>
@@ -77,10 +78,8 @@ fn open_cursor_of_json(alloc: Global, json: &Json) -> Result<WsRequest, ReadFail
 fn close_cursor_of_json(json: &Json) -> Result<WsRequest, ReadFail>
     ensures { Reads (λ r. IsRequestOf Kind.CloseCursor r (view json.now)) (RequestMembersStand Kind.CloseCursor (view json.now)) result }
 {
-    match int32_of_json(member(json, "cursor_id", &Json::Null)) {
-        Ok(cursor_id) => Ok(WsRequest::CloseCursor(cursor_id)),
-        Err(fail) => Err(fail),
-    }
+    let cursor_id = int32_of_json(member(json, "cursor_id", &Json::Null))?;
+    Ok(WsRequest::CloseCursor(cursor_id))
 }
 
 fn fetch_of_parts(cursor: &Json, count: &Json) -> Result<(i32, u32), ReadFail>
@@ -95,31 +94,25 @@ fn fetch_cursor_of_json(json: &Json) -> Result<WsRequest, ReadFail>
 {
     let null = Json::Null;
     let cursor = member(json, "cursor_id", &null);
-    match fetch_of_parts(cursor, member(json, "max_count", &null)) {
-        Ok((cursor_id, max_count)) => Ok(WsRequest::FetchCursor {
-            cursor_id,
-            max_count,
-        }),
-        Err(fail) => Err(fail),
-    }
+    let (cursor_id, max_count) = fetch_of_parts(cursor, member(json, "max_count", &null))?;
+    Ok(WsRequest::FetchCursor {
+        cursor_id,
+        max_count,
+    })
 }
 
 fn store_sql_of_json(alloc: Global, json: &Json) -> Result<WsRequest, ReadFail>
     ensures { Reads (λ r. IsRequestOf Kind.StoreSql r (view json.now)) (RequestMembersStand Kind.StoreSql (view json.now)) result }
 {
-    match stored_of_json(alloc, json) {
-        Ok((id, sql)) => Ok(WsRequest::StoreSql { id, sql }),
-        Err(fail) => Err(fail),
-    }
+    let (id, sql) = stored_of_json(alloc, json)?;
+    Ok(WsRequest::StoreSql { id, sql })
 }
 
 fn close_sql_of_json(json: &Json) -> Result<WsRequest, ReadFail>
     ensures { Reads (λ r. IsRequestOf Kind.CloseSql r (view json.now)) (RequestMembersStand Kind.CloseSql (view json.now)) result }
 {
-    match int32_of_json(member(json, "sql_id", &Json::Null)) {
-        Ok(id) => Ok(WsRequest::CloseSql(id)),
-        Err(fail) => Err(fail),
-    }
+    let id = int32_of_json(member(json, "sql_id", &Json::Null))?;
+    Ok(WsRequest::CloseSql(id))
 }
 
 fn request_of_members(alloc: Global, kind: Kind, json: &Json) -> Result<WsRequest, ReadFail>
