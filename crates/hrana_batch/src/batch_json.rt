@@ -7,18 +7,15 @@ ghost use Rattle.hrana_value.specs.Trees.{ItemsTree, ArrayTree, OptionalTree, Op
 ghost use Rattle.hrana_value.specs.declared.failures.Decline.TheVariants.{Range};
 ghost use Rattle.hrana_stmt.specs.Tree.{StmtTree, StmtStands, count_of};
 ghost use Rattle.hrana_batch.specs.Tree.{CondTree, CondStands, StepTree, StepStands, StepsStand, StepArrayStands, BatchTree, BatchStands, BatchFits, NoTreeIsTwoBatches, FittingBatchesAreRead};
-ghost use Rattle.hrana_batch.specs.Parts.{StepPartsTree, CondReadsBack};
+ghost use Rattle.hrana_batch.specs.Parts.{CondReadsBack};
 ghost use Rattle.hrana_batch.specs.Progress.{NamesEarlierSteps};
 ghost use Rattle.hrana_batch.specs.Written.{step_object, optional_cond, step_data, batch_object, batch_data};
 
-use crate::{Batch, Cond, Step, Steps, cond_of_json, cond_to_json};
+use crate::{Batch, Cond, MAX_STEPS, Step, Steps, cond_of_json, cond_to_json};
 use hrana_stmt::{stmt_of_json, stmt_to_json};
-use hrana_value::{Decline, NoMemory, ReadFail, both, member, with_item};
+use hrana_value::{Decline, NoMemory, ReadFail, both_readings, member_or_null, members, with_item};
 use serde_json::{Map, Value as Json, put};
 use std::alloc::Global;
-
-/// The most steps of a batch.
-pub const STEP_LIMIT: usize = 256;
 
 fn optional_cond_of_json(alloc: Global, step: usize, json: &Json) -> Result<Option<Cond>, ReadFail>
     ensures { Reads (λ c. OptionalTree CondTree c (view json.now)) (OptionalStands (CondStands step) (view json.now)) result }
@@ -32,31 +29,16 @@ fn optional_cond_of_json(alloc: Global, step: usize, json: &Json) -> Result<Opti
     }
 }
 
-fn step_of_parts(
-    alloc: Global,
-    step: usize,
-    condition: &Json,
-    stmt: &Json,
-) -> Result<Step, ReadFail>
-    ensures { Reads (λ s. StepPartsTree s (view condition.now) (view stmt.now)) (EitherStands (OptionalStands (CondStands step) (view condition.now)) (StmtStands (view stmt.now))) result }
-{
-    let condition = optional_cond_of_json(alloc, step, condition);
-    match both(condition, stmt_of_json(alloc, stmt)) {
-        Ok((condition, stmt)) => Ok(Step { condition, stmt }),
-        Err(fail) => Err(fail),
-    }
-}
-
 fn step_of_json(alloc: Global, step: usize, json: &Json) -> Result<Step, ReadFail>
     ensures { Reads (λ s. StepTree s (view json.now)) (StepStands step (view json.now)) result }
 {
-    let null = Json::Null;
-    step_of_parts(
-        alloc,
-        step,
-        member(json, "condition", &null),
-        member(json, "stmt", &null),
-    )
+    members!(json;
+        condition = "condition": optional_cond_of_json(alloc, step),
+        stmt = "stmt": stmt_of_json(alloc));
+    match both_readings(condition, stmt) {
+        Ok((condition, stmt)) => Ok(Step { condition, stmt }),
+        Err(fail) => Err(fail),
+    }
 }
 
 fn steps_of_items(alloc: Global, items: &[Json]) -> Result<Steps, ReadFail>
@@ -66,10 +48,7 @@ fn steps_of_items(alloc: Global, items: &[Json]) -> Result<Steps, ReadFail>
     for i in 0..items.len() {
         steps = with_item(steps, step_of_json(alloc, i, &items[i]));
     }
-    match steps {
-        Ok(steps) => Ok(Steps::from_vec(steps)),
-        Err(fail) => Err(fail),
-    }
+    Ok(Steps::from_vec(steps?))
 }
 
 fn steps_of_json(alloc: Global, json: &Json) -> Result<Steps, ReadFail>
@@ -91,9 +70,9 @@ fn count(json: &Json) -> usize
 }
 
 fn step_limit(steps: &Json) -> Result<(), ReadFail>
-    ensures { Reads (λ _. count_of (view steps.now) ≤ 256) (Only Range (256 < count_of (view steps.now))) result }
+    ensures { Reads (λ _. count_of (view steps.now) ≤ MAX_STEPS) (Only Range (MAX_STEPS < count_of (view steps.now))) result }
 {
-    if count(steps) <= STEP_LIMIT {
+    if count(steps) <= MAX_STEPS {
         Ok(())
     } else {
         Err(ReadFail::Declined(Decline::Range))
@@ -101,21 +80,19 @@ fn step_limit(steps: &Json) -> Result<(), ReadFail>
 }
 
 fn batch_of_parts(alloc: Global, steps: &Json) -> Result<Batch, ReadFail>
-    ensures { Reads (λ b. ArrayTree StepTree b.steps (view steps.now)) (EitherStands (StepArrayStands (view steps.now)) (Only Range (256 < count_of (view steps.now)))) result }
+    ensures { Reads (λ b. ArrayTree StepTree b.steps (view steps.now)) (EitherStands (StepArrayStands (view steps.now)) (Only Range (MAX_STEPS < count_of (view steps.now)))) result }
 {
-    match both(steps_of_json(alloc, steps), step_limit(steps)) {
-        Ok((steps, ())) => Ok(Batch { steps }),
-        Err(fail) => Err(fail),
-    }
+    let (steps, ()) = both_readings(steps_of_json(alloc, steps), step_limit(steps))?;
+    Ok(Batch { steps })
 }
 
-/// Reads a batch: `steps`, each with a `stmt` and an optional `condition`. It has at most 256 steps.
+/// Reads a batch: `steps`, each with a `stmt` and an optional `condition`. It has at most `MAX_STEPS` steps.
 pub fn batch_of_json(alloc: Global, json: &Json) -> Result<Batch, ReadFail>
     ensures reads { Reads (λ b. BatchTree b (view json.now)) (BatchStands (view json.now)) result }
     ensures fits { IfOk result BatchFits }
     ensures earlier { IfOk result NamesEarlierSteps }
 {
-    batch_of_parts(alloc, member(json, "steps", &Json::Null))
+    batch_of_parts(alloc, member_or_null(json, "steps", &Json::Null))
 }
 
 fn step_members(alloc: Global, condition: Option<Json>, stmt: Json) -> Result<Json, NoMemory>

@@ -10,7 +10,7 @@ ghost use Rattle.hrana_batch.specs.Written.{result_entry, error_entry, batch_res
 
 use crate::{BatchResult, Outcome, Outcomes};
 use hrana_stmt::{error_of_json, error_to_json, result_of_json, result_to_json};
-use hrana_value::{Decline, NoMemory, ReadFail, member, with_item};
+use hrana_value::{Decline, NoMemory, ReadFail, member_or_null, with_item};
 use serde_json::{Map, Value as Json, put};
 use std::alloc::Global;
 
@@ -22,15 +22,9 @@ fn outcome_of_entries(alloc: Global, done: &Json, failed: &Json) -> Result<Outco
         if failed.is_null() {
             return Ok(Outcome::Skipped);
         }
-        match error_of_json(alloc, failed) {
-            Ok(error) => Ok(Outcome::Failed(error)),
-            Err(fail) => Err(fail),
-        }
+        Ok(Outcome::Failed(error_of_json(alloc, failed)?))
     } else if failed.is_null() {
-        match result_of_json(alloc, done) {
-            Ok(given) => Ok(Outcome::Done(given)),
-            Err(fail) => Err(fail),
-        }
+        Ok(Outcome::Done(result_of_json(alloc, done)?))
     } else {
         Err(ReadFail::Declined(Decline::Shape))
     }
@@ -44,10 +38,7 @@ fn outcomes_of_items(alloc: Global, results: &[Json], errors: &[Json]) -> Result
     for i in 0..results.len() {
         outcomes = with_item(outcomes, outcome_of_entries(alloc, &results[i], &errors[i]));
     }
-    match outcomes {
-        Ok(outcomes) => Ok(Outcomes::from_vec(outcomes)),
-        Err(fail) => Err(fail),
-    }
+    Ok(Outcomes::from_vec(outcomes?))
 }
 
 fn outcomes_of_lists(alloc: Global, results: &[Json], errors: &[Json]) -> Result<Outcomes, ReadFail>
@@ -78,8 +69,8 @@ pub fn batch_result_of_json(alloc: Global, json: &Json) -> Result<BatchResult, R
     ensures { Reads (λ r. BatchResultTree r (view json.now)) (BatchResultStands (view json.now)) result }
 {
     let null = Json::Null;
-    let results = member(json, "step_results", &null);
-    match outcomes_of_parts(alloc, results, member(json, "step_errors", &null)) {
+    let results = member_or_null(json, "step_results", &null);
+    match outcomes_of_parts(alloc, results, member_or_null(json, "step_errors", &null)) {
         Ok(outcomes) => Ok(BatchResult { outcomes }),
         Err(fail) => Err(fail),
     }
