@@ -8,22 +8,6 @@ use Rattle.hrana_batch.specs.declared.conditions.Cond.{Cond, the_lemmas}
 use Rattle.hrana_batch.specs.declared.conditions.Cond.TheVariants.{StepOk, StepError, Not, All, Any, Autocommit}
 use Rattle.hrana_batch.specs.declared.outcomes.Outcome.{Outcome}
 
-module _ (outcomes : List Outcome) (auto : Bool) where
-  pub holds-StepOk : (n : ℕ) → holds_on outcomes auto (StepOk n) ≡ is_done (slice_get outcomes n)
-  holds-StepOk n = search (rules, the_lemmas)
-
-  pub holds-StepError : (n : ℕ) → holds_on outcomes auto (StepError n) ≡ is_failed (slice_get outcomes n)
-  holds-StepError n = search (rules, the_lemmas)
-
-  pub holds-Not : (c : Cond) → holds_on outcomes auto (Not c) ≡ not (holds_on outcomes auto c)
-  holds-Not c = search (rules, the_lemmas)
-
-  pub holds-All : (cs : List Cond) → holds_on outcomes auto (All cs) ≡ list_all (λ b. b) (map (holds_on outcomes auto) cs)
-  holds-All cs = search (rules, the_lemmas)
-
-  pub holds-Any : (cs : List Cond) → holds_on outcomes auto (Any cs) ≡ list_any (λ b. b) (map (holds_on outcomes auto) cs)
-  holds-Any cs = search (rules, the_lemmas)
-
 pub names-StepOk : (n step : ℕ) → names_below n (StepOk step) ≡ nat_lt step n
 names-StepOk n step = search (rules, the_lemmas)
 

@@ -5,6 +5,7 @@ use Rattle.hrana_value.specs.declared.failures.Decline.{Decline}
 use Rattle.hrana_value.specs.declared.failures.Decline.TheVariants.{Unknown, Describe, Shape}
 use Rattle.hrana_value.specs.Declines.{NoneStands, EitherStands}
 use Rattle.hrana_value.specs.Members.{HasText, HasInt32, text_at, part_at, Int32Stands, Uint32Tree, Uint32Stands}
+use Rattle.hrana_stmt.specs.declared.limits.TheConstants.{MAX_SQL_BYTES}
 use Rattle.hrana_batch.specs.Tree.{BatchTree, BatchStands, BatchFits}
 use Rattle.stream_requests.specs.declared.asks.AskKind.{AskKind}
 use Rattle.stream_requests.specs.declared.asks.AskKind.TheVariants as ask
@@ -86,7 +87,7 @@ pub data RequestStands (t : Data) (d : Decline) : Type 0 where
 abbrev pub RequestFits : WsRequest → Type 0
 RequestFits (OnStream stream asked) = AskFits asked
 RequestFits (OpenCursor stream cursor batch) = BatchFits batch
-RequestFits (StoreSql id sql) = length sql ≤ 65536
+RequestFits (StoreSql id sql) = length sql ≤ MAX_SQL_BYTES
 RequestFits r = Unit {0}
 
 -- ---- laws

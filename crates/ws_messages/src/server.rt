@@ -12,7 +12,7 @@ ghost use Rattle.ws_messages.specs.WrittenServer.{server_data, ServerReadsBack};
 use crate::response_json::{response_of_json, response_to_json};
 use crate::{Kind, MsgFail, ServerMsg, Why};
 use hrana_stmt::{WireError, error_of_json, error_to_json};
-use hrana_value::{Decline, NoMemory, ReadFail, Txt, int32_member, member, text_member};
+use hrana_value::{Decline, NoMemory, ReadFail, Txt, int32_member, member_or_null, text_member};
 use serde_json::{Map, Value as Json, json, put};
 use std::alloc::Global;
 use stream_requests::{Reply, no_members_are_two_replies, replies_are_read};
@@ -36,7 +36,7 @@ fn hello_error_of_json(alloc: Global, json: &Json) -> Result<ServerMsg, MsgFail>
     ensures violation { IfErr result (λ e. (why : Why) → e ≡ MsgFail.Violation why → ServerViolates (view json.now) why) }
     ensures declined { IfErr result (λ e. (id : ℤ) (d : Decline) → e ≡ MsgFail.Declined id d → ServerDeclines (view json.now) id d) }
 {
-    match error_of_json(alloc, member(json, "error", &Json::Null)) {
+    match error_of_json(alloc, member_or_null(json, "error", &Json::Null)) {
         Ok(error) => Ok(ServerMsg::HelloError(error)),
         Err(ReadFail::Declined(_)) => Err(MsgFail::Violation(Why::BadReply)),
         Err(ReadFail::NoMemory) => Err(MsgFail::NoMemory),
@@ -52,7 +52,7 @@ fn ok_of_json(alloc: Global, json: &Json) -> Result<ServerMsg, MsgFail>
     let Some(request_id) = int32_member(json, "request_id") else {
         return Err(MsgFail::Violation(Why::BadRequestId));
     };
-    match response_of_json(alloc, member(json, "response", &Json::Null)) {
+    match response_of_json(alloc, member_or_null(json, "response", &Json::Null)) {
         Ok((kind, reply)) => Ok(ServerMsg::Ok {
             request_id,
             kind,
@@ -71,7 +71,7 @@ fn error_msg_of_json(alloc: Global, json: &Json) -> Result<ServerMsg, MsgFail>
     let Some(request_id) = int32_member(json, "request_id") else {
         return Err(MsgFail::Violation(Why::BadRequestId));
     };
-    match error_of_json(alloc, member(json, "error", &Json::Null)) {
+    match error_of_json(alloc, member_or_null(json, "error", &Json::Null)) {
         Ok(error) => Ok(ServerMsg::Error { request_id, error }),
         Err(fail) => Err(rest_failure(request_id, fail)),
     }
