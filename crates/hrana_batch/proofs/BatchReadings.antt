@@ -10,14 +10,14 @@ use Rattle.hrana_value.specs.declared.failures.Decline.TheVariants.{Range}
 use Rattle.hrana_value.specs.declared.failures.ReadFail.{ReadFail}
 use Rattle.hrana_value.specs.Declines.{Reads, EitherStands, Only, more_of}
 use Rattle.hrana_value.specs.Members.{part_at}
-use Rattle.hrana_value.specs.Trees.{ItemsTree, ArrayTree, OptionalStands}
-use Rattle.hrana_value.proofs.DeclineLemmas.{Reads-more, Reads-same, Reads-weaken}
+use Rattle.hrana_value.specs.Trees.{ItemsTree, ArrayTree}
+use Rattle.hrana_value.proofs.DeclineLemmas.{Reads-more, Reads-same}
 use Rattle.hrana_value.proofs.ItemsLemmas.{ItemsTree-snoc}
-use Rattle.hrana_stmt.specs.Tree.{StmtStands, count_of}
+use Rattle.hrana_stmt.specs.Tree.{count_of}
 use Rattle.hrana_batch.specs.declared.limits.TheConstants.{MAX_STEPS}
 use Rattle.hrana_batch.specs.declared.batches.Step.{Step}
 use Rattle.hrana_batch.specs.declared.batches.Batch.{Batch}
-use Rattle.hrana_batch.specs.Tree.{CondStands, StepTree, StepStands, StepsStand, StepArrayStands, BatchTree, BatchStands}
+use Rattle.hrana_batch.specs.Tree.{StepTree, StepStands, StepsStand, StepArrayStands, BatchTree, BatchStands}
 
 -- ---- one step more
 

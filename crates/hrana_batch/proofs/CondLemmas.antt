@@ -1,12 +1,11 @@
 -- A condition, level by level.
-use Rattle.std.proofs.Common.{◌≡◌, ℕ, zero, suc, ◌<◌, ◌≤◌, max, List, [], ◌∷◌, Bool, true, false, ◌&&◌, ◌||◌, rules, not, map, length, get_or, ◌++◌, ◌+◌, take, arith, sym, ◌∙◌, refl, ap}
+use Rattle.std.proofs.Common.{◌≡◌, ℕ, zero, suc, ◌<◌, ◌≤◌, max, List, [], ◌∷◌, Bool, true, false, ◌&&◌, ◌||◌, rules, map, length, get_or, ◌++◌, ◌+◌, take, arith, sym, ◌∙◌, refl, ap}
 use Rattle.std.proofs.lemmas.List.{take_more, map-append}
-use Rattle.std.specs.Prelude.{slice_get, nat_lt}
+use Rattle.std.specs.Prelude.{nat_lt}
 use Rattle.std.specs.List.{list_all, list_any}
-use Rattle.hrana_batch.specs.Conditions.{holds_on, names_below, is_done, is_failed, depth_of, greatest}
+use Rattle.hrana_batch.specs.Conditions.{names_below, depth_of, greatest}
 use Rattle.hrana_batch.specs.declared.conditions.Cond.{Cond, the_lemmas}
 use Rattle.hrana_batch.specs.declared.conditions.Cond.TheVariants.{StepOk, StepError, Not, All, Any, Autocommit}
-use Rattle.hrana_batch.specs.declared.outcomes.Outcome.{Outcome}
 
 pub names-StepOk : (n step : ℕ) → names_below n (StepOk step) ≡ nat_lt step n
 names-StepOk n step = search (rules, the_lemmas)

@@ -1,13 +1,12 @@
 -- Forms of steps and outcomes by their parts.
 use Rattle.std.specs.Prelude.{◌⊎◌, List, Option, None, Some}
-use Rattle.serde_json.specs.Data.{Data, Items, no_items, item}
+use Rattle.serde_json.specs.Data.{Data, Items, item}
 use Rattle.hrana_value.specs.declared.failures.Decline.{Decline}
 use Rattle.hrana_value.specs.declared.failures.Decline.TheVariants.{Shape}
 use Rattle.hrana_value.specs.Declines.{EitherStands, Only}
-use Rattle.hrana_value.specs.Trees.{ItemsTree, ArrayTree, ArrayStands, OptionalTree, OptionalStands}
-use Rattle.hrana_stmt.specs.Tree.{IsGiven, StmtTree, StmtResultStands, WireErrorStands}
+use Rattle.hrana_value.specs.Trees.{ItemsTree, ArrayTree, ArrayStands, OptionalStands}
+use Rattle.hrana_stmt.specs.Tree.{IsGiven, StmtResultStands, WireErrorStands}
 use Rattle.hrana_batch.specs.declared.conditions.Cond.{Cond}
-use Rattle.hrana_batch.specs.declared.batches.Step.{Step}
 use Rattle.hrana_batch.specs.declared.outcomes.Outcome.{Outcome}
 use Rattle.hrana_batch.specs.Tree.{CondTree, ResultEntryTree, ErrorEntryTree, PartsClash}
 

@@ -14,7 +14,7 @@ use Rattle.hrana_batch.specs.Written.{batch_result_data}
 use Rattle.stream_requests.specs.declared.asks.AskKind.{AskKind}
 use Rattle.stream_requests.specs.declared.asks.AskKind.TheVariants as kind
 use Rattle.stream_requests.specs.declared.replies.Reply.{Reply}
-use Rattle.stream_requests.specs.declared.replies.Reply.TheVariants.{StreamOpened, Execute, Batch, Sequence, Cursor, Fetched, CursorClosed, Autocommit, SqlStored, SqlClosed, Closed, Failed}
+use Rattle.stream_requests.specs.declared.replies.Reply.TheVariants.{Execute, Batch, Sequence, Cursor, Fetched, CursorClosed, Autocommit, SqlStored, SqlClosed, Closed}
 use Rattle.stream_requests.specs.Asks.{NothingStands}
 use Rattle.stream_requests.specs.Entries.{EntryTree, EntryStands}
 use Rattle.stream_requests.specs.WrittenEntries.{entries_data}

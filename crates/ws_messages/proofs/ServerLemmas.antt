@@ -9,7 +9,6 @@ use Rattle.hrana_value.specs.Declines.{rank_of, Reads, NoneStands, IsFirst, IsDe
 use Rattle.hrana_value.specs.Members.{HasText, HasInt32}
 use Rattle.hrana_value.proofs.TextLemmas.{one, apart}
 use Rattle.hrana_value.proofs.DeclineLemmas.{Reads-weaken, Reads-same, IsFirst-same}
-use Rattle.hrana_stmt.specs.Tree.{WireErrorStands}
 use Rattle.hrana_stmt.proofs.ResultReadings.{WireErrorTree-one, WireErrorTree-none}
 use Rattle.stream_requests.specs.declared.asks.AskKind.{AskKind}
 use Rattle.stream_requests.specs.declared.asks.AskKind.TheVariants as ask
