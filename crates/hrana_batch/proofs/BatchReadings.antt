@@ -10,23 +10,14 @@ use Rattle.hrana_value.specs.declared.failures.Decline.TheVariants.{Range}
 use Rattle.hrana_value.specs.declared.failures.ReadFail.{ReadFail}
 use Rattle.hrana_value.specs.Declines.{Reads, EitherStands, Only, more_of}
 use Rattle.hrana_value.specs.Members.{part_at}
-use Rattle.hrana_value.specs.Trees.{ItemsTree, ArrayTree, OptionalStands}
-use Rattle.hrana_value.proofs.DeclineLemmas.{Reads-more, Reads-same, Reads-weaken}
+use Rattle.hrana_value.specs.Trees.{ItemsTree, ArrayTree}
+use Rattle.hrana_value.proofs.DeclineLemmas.{Reads-more, Reads-same}
 use Rattle.hrana_value.proofs.ItemsLemmas.{ItemsTree-snoc}
-use Rattle.hrana_stmt.specs.Tree.{StmtStands, count_of}
+use Rattle.hrana_stmt.specs.Tree.{count_of}
+use Rattle.hrana_batch.specs.declared.limits.TheConstants.{MAX_STEPS}
 use Rattle.hrana_batch.specs.declared.batches.Step.{Step}
 use Rattle.hrana_batch.specs.declared.batches.Batch.{Batch}
-use Rattle.hrana_batch.specs.Parts.{StepPartsTree}
-use Rattle.hrana_batch.specs.Tree.{CondStands, StepTree, StepStands, StepsStand, StepArrayStands, BatchTree, BatchStands}
-
--- ---- a step
-
-pub step_read : (step : ℕ) (t condition stmt : Data) (r : Result Step ReadFail) → condition ≡ part_at (codes "condition") t → stmt ≡ part_at (codes "stmt") t
-    → Reads (λ s. StepPartsTree s condition stmt) (EitherStands (OptionalStands (CondStands step) condition) (StmtStands stmt)) r → Reads (λ s. StepTree s t) (StepStands step t) r
-step_read step t condition stmt r p q reads =
-    let by_condition = subst (λ d. Reads (λ s. StepPartsTree s d stmt) (EitherStands (OptionalStands (CondStands step) d) (StmtStands stmt)) r) p reads in
-    let by_both = subst (λ d. Reads (λ s. StepPartsTree s (part_at (codes "condition") t) d) (EitherStands (OptionalStands (CondStands step) (part_at (codes "condition") t)) (StmtStands d)) r) q by_condition in
-    Reads-weaken (λ s. StepPartsTree s (part_at (codes "condition") t) (part_at (codes "stmt") t)) (λ s. StepTree s t) (StepStands step t) r (λ s h. record { condition = h.0; stmt = h.1 }) by_both
+use Rattle.hrana_batch.specs.Tree.{StepTree, StepStands, StepsStand, StepArrayStands, BatchTree, BatchStands}
 
 -- ---- one step more
 
@@ -74,5 +65,5 @@ steps_more js i j ss s h e p q =
 -- ---- a batch
 
 pub batch_read : (t steps : Data) (r : Result Batch ReadFail) → steps ≡ part_at (codes "steps") t
-    → Reads (λ b. ArrayTree StepTree b.steps steps) (EitherStands (StepArrayStands steps) (Only Range (256 < count_of steps))) r → Reads (λ b. BatchTree b t) (BatchStands t) r
-batch_read t steps r p reads = subst (λ d. Reads (λ b. ArrayTree StepTree b.steps d) (EitherStands (StepArrayStands d) (Only Range (256 < count_of d))) r) p reads
+    → Reads (λ b. ArrayTree StepTree b.steps steps) (EitherStands (StepArrayStands steps) (Only Range (MAX_STEPS < count_of steps))) r → Reads (λ b. BatchTree b t) (BatchStands t) r
+batch_read t steps r p reads = subst (λ d. Reads (λ b. ArrayTree StepTree b.steps d) (EitherStands (StepArrayStands d) (Only Range (MAX_STEPS < count_of d))) r) p reads

@@ -10,6 +10,7 @@ use Rattle.hrana_value.specs.Declines.{rank_of, IsFirst, Reads}
 use Rattle.hrana_value.specs.Members.{part_at, Uint32Tree}
 use Rattle.hrana_value.proofs.TextLemmas.{one}
 use Rattle.hrana_value.proofs.DeclineLemmas.{Reads-ok, Reads-declined, Reads-no_memory}
+use Rattle.hrana_batch.specs.declared.limits.TheConstants.{MAX_CONDITION_DEPTH}
 use Rattle.hrana_batch.specs.declared.conditions.Cond.{Cond}
 use Rattle.hrana_batch.specs.declared.conditions.Cond.TheVariants.{StepOk, StepError, Not, All, Any}
 use Rattle.hrana_batch.specs.Conditions.{depth_of}
@@ -71,7 +72,7 @@ mutual
 
 -- ---- readings with the limit of depth
 
-pub depth_read : (step : ℕ) (t : Data) (r : Result Cond ReadFail) (c : Cond) → r ≡ Ok c → depth_of c ≤ 32 → CondReads step t r → Reads (λ d. CondTree d t) (CondStands step t) (Ok c)
+pub depth_read : (step : ℕ) (t : Data) (r : Result Cond ReadFail) (c : Cond) → r ≡ Ok c → depth_of c ≤ MAX_CONDITION_DEPTH → CondReads step t r → Reads (λ d. CondTree d t) (CondStands step t) (Ok c)
 depth_read step t r c is fits reads =
     let read = subst (CondReads step t) is reads in
     Reads-ok c read.ok (λ k here. elim here [

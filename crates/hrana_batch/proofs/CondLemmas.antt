@@ -1,28 +1,11 @@
 -- A condition, level by level.
-use Rattle.std.proofs.Common.{◌≡◌, ℕ, zero, suc, ◌<◌, ◌≤◌, max, List, [], ◌∷◌, Bool, true, false, ◌&&◌, ◌||◌, rules, not, map, length, get_or, ◌++◌, ◌+◌, take, arith, sym, ◌∙◌, refl, ap}
+use Rattle.std.proofs.Common.{◌≡◌, ℕ, zero, suc, ◌<◌, ◌≤◌, max, List, [], ◌∷◌, Bool, true, false, ◌&&◌, ◌||◌, rules, map, length, get_or, ◌++◌, ◌+◌, take, arith, sym, ◌∙◌, refl, ap}
 use Rattle.std.proofs.lemmas.List.{take_more, map-append}
-use Rattle.std.specs.Prelude.{slice_get, nat_lt}
+use Rattle.std.specs.Prelude.{nat_lt}
 use Rattle.std.specs.List.{list_all, list_any}
-use Rattle.hrana_batch.specs.Conditions.{holds_on, names_below, is_done, is_failed, depth_of, greatest}
+use Rattle.hrana_batch.specs.Conditions.{names_below, depth_of, greatest}
 use Rattle.hrana_batch.specs.declared.conditions.Cond.{Cond, the_lemmas}
 use Rattle.hrana_batch.specs.declared.conditions.Cond.TheVariants.{StepOk, StepError, Not, All, Any, Autocommit}
-use Rattle.hrana_batch.specs.declared.outcomes.Outcome.{Outcome}
-
-module _ (outcomes : List Outcome) (auto : Bool) where
-  pub holds-StepOk : (n : ℕ) → holds_on outcomes auto (StepOk n) ≡ is_done (slice_get outcomes n)
-  holds-StepOk n = search (rules, the_lemmas)
-
-  pub holds-StepError : (n : ℕ) → holds_on outcomes auto (StepError n) ≡ is_failed (slice_get outcomes n)
-  holds-StepError n = search (rules, the_lemmas)
-
-  pub holds-Not : (c : Cond) → holds_on outcomes auto (Not c) ≡ not (holds_on outcomes auto c)
-  holds-Not c = search (rules, the_lemmas)
-
-  pub holds-All : (cs : List Cond) → holds_on outcomes auto (All cs) ≡ list_all (λ b. b) (map (holds_on outcomes auto) cs)
-  holds-All cs = search (rules, the_lemmas)
-
-  pub holds-Any : (cs : List Cond) → holds_on outcomes auto (Any cs) ≡ list_any (λ b. b) (map (holds_on outcomes auto) cs)
-  holds-Any cs = search (rules, the_lemmas)
 
 pub names-StepOk : (n step : ℕ) → names_below n (StepOk step) ≡ nat_lt step n
 names-StepOk n step = search (rules, the_lemmas)

@@ -17,6 +17,7 @@ use Rattle.hrana_value.proofs.PartLemmas.{OptionalTree-one}
 use Rattle.hrana_stmt.specs.declared.statements.Stmt.{Stmt}
 use Rattle.hrana_stmt.specs.Tree.{StmtStands, items_count, count_of}
 use Rattle.hrana_stmt.proofs.StmtLemmas.{StmtTree-one, StmtTree-fits}
+use Rattle.hrana_batch.specs.declared.limits.TheConstants.{MAX_STEPS, MAX_CONDITION_DEPTH}
 use Rattle.hrana_batch.specs.declared.conditions.Cond.{Cond}
 use Rattle.hrana_batch.specs.declared.batches.Step.{Step}
 use Rattle.hrana_batch.specs.declared.batches.Batch.{Batch}
@@ -132,7 +133,7 @@ cond_none step c t tree fits = λ k here. elim here [
 cond_fits : (step : ℕ) (c : Cond) (t : Data) → CondTree c t → NoneStands (CondStands step t) → CondFits step c
 cond_fits step c t tree none = record {
   earlier = within_names step c t tree (λ k here. none k (inl here));
-  depth = elim (cases_lt 32 (depth_of c)) [ inl deep ↦ absurd (none Range (inr (refl, (c, tree, deep)))) | inr few ↦ few ];
+  depth = elim (cases_lt MAX_CONDITION_DEPTH (depth_of c)) [ inl deep ↦ absurd (none Range (inr (refl, (c, tree, deep)))) | inr few ↦ few ];
 }
 
 optional_none : (step : ℕ) (o : Option Cond) (t : Data) → OptionalTree CondTree o t → IfSome o (CondFits step) → NoneStands (OptionalStands (CondStands step) t)
@@ -214,14 +215,14 @@ array_length ss (object ms) tree = absurd tree
 batch_none : (b : Batch) (t : Data) → BatchTree b t → BatchFits b → NoneStands (BatchStands t)
 batch_none b t tree fits =
     let steps = part_at (codes "steps") t in
-    NoneStands-parts (StepArrayStands steps) (Only Range (256 < count_of steps)) (array_none b.steps steps tree fits.each)
+    NoneStands-parts (StepArrayStands steps) (Only Range (MAX_STEPS < count_of steps)) (array_none b.steps steps tree fits.each)
     (λ k here. let count = array_length b.steps steps tree in let few = fits.few in let many = here.1 in absurd (omega arith))
 
 batch_fits : (b : Batch) (t : Data) → BatchTree b t → NoneStands (BatchStands t) → BatchFits b
 batch_fits b t tree none =
     let steps = part_at (codes "steps") t in
     record {
-      few = elim (cases_lt 256 (length b.steps)) [
+      few = elim (cases_lt MAX_STEPS (length b.steps)) [
         | inl many ↦ absurd (none Range (inr (refl, let count = array_length b.steps steps tree in omega arith)))
         | inr few ↦ few
       ];

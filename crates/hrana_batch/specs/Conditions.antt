@@ -1,26 +1,23 @@
 -- When a condition holds, which steps it names, and how deep it is.
-use Rattle.std.specs.Prelude.{ℕ, suc, ◌≤◌, Bool, true, false, not, List, [], ◌∷◌, map, Option, None, Some, slice_get, nat_lt, max, IsTrue}
+use Rattle.std.specs.Prelude.{ℕ, suc, ◌≤◌, Bool, true, false, not, List, [], ◌∷◌, map, Option, Some, slice_get, nat_lt, max, IsTrue}
 use Rattle.std.specs.List.{list_all, list_any}
 use Rattle.hrana_batch.specs.declared.conditions.Cond.{Cond, fold-Cond}
 use Rattle.hrana_batch.specs.declared.conditions.Cond.TheOpen.{Cond-F}
+use Rattle.hrana_batch.specs.declared.limits.TheConstants.{MAX_CONDITION_DEPTH}
 use Rattle.hrana_batch.specs.declared.outcomes.Outcome.{Outcome}
-use Rattle.hrana_batch.specs.declared.outcomes.Outcome.TheVariants.{Skipped, Done, Failed}
+use Rattle.hrana_batch.specs.declared.outcomes.Outcome.TheVariants.{Done, Failed}
 
 -- ---- when it holds
 
 -- the step was done; one that was skipped wasn't
 abbrev pub is_done : Option Outcome → Bool
 is_done (Some (Done r)) = true
-is_done (Some (Failed e)) = false
-is_done (Some Skipped) = false
-is_done None = false
+is_done o = false
 
 -- the step failed; one that was skipped didn't
 abbrev pub is_failed : Option Outcome → Bool
-is_failed (Some (Done r)) = false
 is_failed (Some (Failed e)) = true
-is_failed (Some Skipped) = false
-is_failed None = false
+is_failed o = false
 
 -- one level, with each part already judged
 abbrev pub holds_step : List Outcome → Bool → Cond-F Bool → Bool
@@ -73,6 +70,5 @@ depth_step Cond-F.Autocommit = 1
 abbrev pub depth_of : Cond → ℕ
 depth_of = fold-Cond ℕ depth_step
 
--- the condition is at most 32 deep
 abbrev pub IsWithinDepth : Cond → Type 0
-IsWithinDepth c = depth_of c ≤ 32
+IsWithinDepth c = depth_of c ≤ MAX_CONDITION_DEPTH

@@ -1,26 +1,20 @@
 -- Forms of steps and outcomes by their parts.
 use Rattle.std.specs.Prelude.{◌⊎◌, List, Option, None, Some}
-use Rattle.serde_json.specs.Data.{Data, Items, no_items, item}
+use Rattle.serde_json.specs.Data.{Data, Items, item}
 use Rattle.hrana_value.specs.declared.failures.Decline.{Decline}
 use Rattle.hrana_value.specs.declared.failures.Decline.TheVariants.{Shape}
 use Rattle.hrana_value.specs.Declines.{EitherStands, Only}
-use Rattle.hrana_value.specs.Trees.{ItemsTree, ArrayTree, ArrayStands, OptionalTree, OptionalStands}
-use Rattle.hrana_stmt.specs.Tree.{IsGiven, StmtTree, StmtResultStands, WireErrorStands}
+use Rattle.hrana_value.specs.Trees.{ItemsTree, ArrayTree, ArrayStands, OptionalStands}
+use Rattle.hrana_stmt.specs.Tree.{IsGiven, StmtResultStands, WireErrorStands}
 use Rattle.hrana_batch.specs.declared.conditions.Cond.{Cond}
-use Rattle.hrana_batch.specs.declared.batches.Step.{Step}
 use Rattle.hrana_batch.specs.declared.outcomes.Outcome.{Outcome}
 use Rattle.hrana_batch.specs.Tree.{CondTree, ResultEntryTree, ErrorEntryTree, PartsClash}
-
--- `StepTree` of the parts `condition` and `stmt`
-abbrev pub StepPartsTree : Step → Data → Data → Type 0
-StepPartsTree s condition stmt = OptionalTree CondTree s.condition condition × StmtTree s.stmt stmt
 
 -- what an optional condition is written as is a form of it
 abbrev pub CondReadsBack : Option Cond → Option Data → Type 0
 CondReadsBack None None = Unit {0}
-CondReadsBack None (Some d) = ⊥
-CondReadsBack (Some c) None = ⊥
 CondReadsBack (Some c) (Some d) = CondTree c d
+CondReadsBack c d = ⊥
 
 -- ---- outcomes
 
@@ -36,9 +30,8 @@ abbrev pub OutcomesTree : List Outcome → Items → Items → Type 0
 OutcomesTree os rs es = ItemsTree ResultEntryTree os rs × ItemsTree ErrorEntryTree os es
 
 abbrev pub OutcomesStand : Items → Items → Decline → Type 0
-OutcomesStand no_items es k = ⊥
-OutcomesStand (item r rs) no_items k = ⊥
 OutcomesStand (item r rs) (item e es) k = EntriesStand r e k ⊎ OutcomesStand rs es k
+OutcomesStand rs es k = ⊥
 
 -- `BatchResultTree` of the parts `step_results` and `step_errors`
 abbrev pub OutcomePartsTree : List Outcome → Data → Data → Type 0

@@ -1,21 +1,22 @@
 -- Which JSON trees batches and their results may be written as, and which declines stand in a tree that should be one.
 use Rattle.std.specs.Prelude.{◌≡◌, ◌⊎◌, ◌↔◌, ℕ, suc, ℤ, pos, negsuc, ◌≤◌, ◌<◌, ◌^◌, List, [], ◌∷◌, length, Option, None, Some, slice_get, codes, IsSomeAnd, IfSome}
-use Rattle.serde_json.specs.Data.{Data, null, boolean, number, string, array, object, Items, no_items, item}
+use Rattle.serde_json.specs.Data.{Data, array, Items, no_items, item}
 use Rattle.serde_json.specs.Find.{as_array}
 use Rattle.hrana_value.specs.declared.failures.Decline.{Decline}
-use Rattle.hrana_value.specs.declared.failures.Decline.TheVariants.{Unknown, Describe, Shape, BothSql, BadStep, Range, Float}
+use Rattle.hrana_value.specs.declared.failures.Decline.TheVariants.{Shape, BadStep, Range}
 use Rattle.hrana_value.specs.Declines.{NoneStands, EitherStands, Only}
 use Rattle.hrana_value.specs.Members.{HasText, part_at, whole_of, Uint32Tree}
 use Rattle.hrana_value.specs.Trees.{ArrayTree, ArrayStands, OptionalTree, OptionalStands}
 use Rattle.hrana_stmt.specs.Tree.{IsGiven, StmtTree, StmtStands, StmtFits, StmtResultTree, StmtResultStands, WireErrorTree, WireErrorStands, items_count, count_of}
 use Rattle.hrana_stmt.specs.declared.results.StmtResult.{StmtResult}
 use Rattle.hrana_stmt.specs.declared.errors.WireError.{WireError}
+use Rattle.hrana_batch.specs.declared.limits.TheConstants.{MAX_STEPS, MAX_CONDITION_DEPTH}
 use Rattle.hrana_batch.specs.declared.conditions.Cond.{Cond}
 use Rattle.hrana_batch.specs.declared.conditions.Cond.TheVariants.{StepOk, StepError, Not, All, Any, Autocommit}
 use Rattle.hrana_batch.specs.declared.batches.Step.{Step}
 use Rattle.hrana_batch.specs.declared.batches.Batch.{Batch}
 use Rattle.hrana_batch.specs.declared.outcomes.Outcome.{Outcome}
-use Rattle.hrana_batch.specs.declared.outcomes.Outcome.TheVariants.{Skipped, Done, Failed}
+use Rattle.hrana_batch.specs.declared.outcomes.Outcome.TheVariants.{Done, Failed}
 use Rattle.hrana_batch.specs.declared.outcomes.BatchResult.{BatchResult}
 use Rattle.hrana_batch.specs.Conditions.{NamesBelow, IsWithinDepth, depth_of}
 
@@ -68,10 +69,7 @@ abbrev pub StepNumberStands : ℕ → Data → Decline → Type 0
 StepNumberStands step d Shape = whole_of d ≡ None
 StepNumberStands step d BadStep = IsSomeAnd (whole_of d) (NamesNoEarlier step)
 StepNumberStands step d Range = IsSomeAnd (whole_of d) IsNegative
-StepNumberStands step d Unknown = ⊥
-StepNumberStands step d Describe = ⊥
-StepNumberStands step d BothSql = ⊥
-StepNumberStands step d Float = ⊥
+StepNumberStands step d k = ⊥
 
 -- what stands in a condition of this step or in one of its parts
 mutual
@@ -86,14 +84,14 @@ mutual
     in_first : (d : Data) (ds : Items) (k : Decline) → StandsWithin step d k → StandsInOne step (item d ds) k
     in_later : (d : Data) (ds : Items) (k : Decline) → StandsInOne step ds k → StandsInOne step (item d ds) k
 
--- the tree is that of a condition which is deeper than 32
+-- the tree is that of a condition which is too deep
 abbrev pub IsTooDeep : Data → Type 0
-IsTooDeep t = (c : Cond) × CondTree c t × (32 < depth_of c)
+IsTooDeep t = (c : Cond) × CondTree c t × (MAX_CONDITION_DEPTH < depth_of c)
 
 abbrev pub CondStands : ℕ → Data → Decline → Type 0
 CondStands step t = EitherStands (StandsWithin step t) (Only Range (IsTooDeep t))
 
--- the condition names steps before this one, and is at most 32 deep
+-- the condition names steps before this one, and is not too deep
 pub record CondFits (step : ℕ) (c : Cond) : Type 0 where
   pub earlier : NamesBelow step c
   pub depth : IsWithinDepth c
@@ -114,18 +112,14 @@ StepsStand step (item d ds) k = StepStands step d k ⊎ StepsStand (suc step) ds
 
 abbrev pub StepArrayStands : Data → Decline → Type 0
 StepArrayStands (array ds) k = StepsStand 0 ds k
-StepArrayStands null k = Only Shape (Unit {0}) k
-StepArrayStands (boolean b) k = Only Shape (Unit {0}) k
-StepArrayStands (number n) k = Only Shape (Unit {0}) k
-StepArrayStands (string s) k = Only Shape (Unit {0}) k
-StepArrayStands (object ms) k = Only Shape (Unit {0}) k
+StepArrayStands other k = Only Shape (Unit {0}) k
 
 abbrev pub BatchTree : Batch → Data → Type 0
 BatchTree b t = ArrayTree StepTree b.steps (part_at (codes "steps") t)
 
--- a batch has at most 256 steps
+-- a batch has so many steps at most
 abbrev pub BatchStands : Data → Decline → Type 0
-BatchStands t = EitherStands (StepArrayStands (part_at (codes "steps") t)) (Only Range (256 < count_of (part_at (codes "steps") t)))
+BatchStands t = EitherStands (StepArrayStands (part_at (codes "steps") t)) (Only Range (MAX_STEPS < count_of (part_at (codes "steps") t)))
 
 pub record StepFits (step : ℕ) (s : Step) : Type 0 where
   pub condition : IfSome s.condition (CondFits step)
@@ -133,20 +127,18 @@ pub record StepFits (step : ℕ) (s : Step) : Type 0 where
 
 -- the batch breaks no limit, and its conditions name earlier steps
 pub record BatchFits (b : Batch) : Type 0 where
-  pub few : length b.steps ≤ 256
+  pub few : length b.steps ≤ MAX_STEPS
   pub each : (i : ℕ) → IfSome (slice_get b.steps i) (StepFits i)
 
 -- ---- results of batches
 
 abbrev pub result_of : Outcome → Option StmtResult
-result_of Skipped = None
 result_of (Done r) = Some r
-result_of (Failed e) = None
+result_of o = None
 
 abbrev pub error_in : Outcome → Option WireError
-error_in Skipped = None
-error_in (Done r) = None
 error_in (Failed e) = Some e
+error_in o = None
 
 -- an entry of `step_results`: null where the step has no result
 abbrev pub ResultEntryTree : Outcome → Data → Type 0
@@ -162,9 +154,8 @@ pub record BatchResultTree (r : BatchResult) (t : Data) : Type 0 where
 
 -- in some place both lists have an entry that isn't null
 abbrev pub BothGiven : Items → Items → Type 0
-BothGiven no_items es = ⊥
-BothGiven (item r rs) no_items = ⊥
 BothGiven (item r rs) (item e es) = (IsGiven r × IsGiven e) ⊎ BothGiven rs es
+BothGiven rs es = ⊥
 
 -- the lists differ in length, or both have an entry in one place
 abbrev pub ListsClash : Items → Items → Type 0

@@ -11,8 +11,8 @@ ghost use Rattle.hrana_batch.specs.Tree.{HasKind, CondTree, StandsWithin, CondSt
 ghost use Rattle.hrana_batch.specs.Written.{cond_data, type_member, step_cond, not_cond, list_cond};
 
 use crate::step_numbers::step_number_of_json;
-use crate::{Cond, Conds};
-use hrana_value::{Decline, NoMemory, ReadFail, index_of, member, text_member, with_item};
+use crate::{Cond, Conds, MAX_CONDITION_DEPTH};
+use hrana_value::{Decline, NoMemory, ReadFail, index_of, member_or_null, text_member, with_item};
 use serde_json::{Map, Value as Json, json, put};
 use sqlite_items::{Boxed, Items};
 use std::alloc::Global;
@@ -32,16 +32,13 @@ const OR: usize = 4;
 
 const IS_AUTOCOMMIT: usize = 5;
 
-/// How deep a condition may be. One with no parts has the depth 1.
-pub const DEPTH_LIMIT: u32 = 32;
-
 // ---- reading
 
 fn step_ok_of_json(step: usize, json: &Json) -> Result<Cond, ReadFail>
     requires { HasKind (view json.now) (codes "ok") }
     ensures { Reads (λ c. CondTree c (view json.now)) (StandsWithin step (view json.now)) result }
 {
-    match step_number_of_json(step, member(json, "step", &Json::Null)) {
+    match step_number_of_json(step, member_or_null(json, "step", &Json::Null)) {
         Ok(number) => Ok(Cond::StepOk(number)),
         Err(fail) => Err(fail),
     }
@@ -51,7 +48,7 @@ fn step_error_of_json(step: usize, json: &Json) -> Result<Cond, ReadFail>
     requires { HasKind (view json.now) (codes "error") }
     ensures { Reads (λ c. CondTree c (view json.now)) (StandsWithin step (view json.now)) result }
 {
-    match step_number_of_json(step, member(json, "step", &Json::Null)) {
+    match step_number_of_json(step, member_or_null(json, "step", &Json::Null)) {
         Ok(number) => Ok(Cond::StepError(number)),
         Err(fail) => Err(fail),
     }
@@ -113,15 +110,15 @@ fn cond_of_tree(alloc: Global, step: usize, json: &Json) -> Result<Cond, ReadFai
         Some(OK) => step_ok_of_json(step, json),
         Some(ERROR) => step_error_of_json(step, json),
         Some(NOT) => {
-            let part = cond_of_tree(alloc, step, member(json, "cond", &Json::Null));
+            let part = cond_of_tree(alloc, step, member_or_null(json, "cond", &Json::Null));
             negated(alloc, step, json, part)
         }
         Some(AND) => {
-            let parts = conds_of_tree(alloc, step, member(json, "conds", &Json::Null));
+            let parts = conds_of_tree(alloc, step, member_or_null(json, "conds", &Json::Null));
             all_of(step, json, parts)
         }
         Some(OR) => {
-            let parts = conds_of_tree(alloc, step, member(json, "conds", &Json::Null));
+            let parts = conds_of_tree(alloc, step, member_or_null(json, "conds", &Json::Null));
             any_of(step, json, parts)
         }
         Some(IS_AUTOCOMMIT) => Ok(Cond::Autocommit),
@@ -147,10 +144,7 @@ fn conds_of_items(alloc: Global, step: usize, items: &[Json]) -> Result<Conds, R
     for item in items {
         conds = with_item(conds, cond_of_tree(alloc, step, item));
     }
-    match conds {
-        Ok(conds) => Ok(Items::from_vec(conds)),
-        Err(fail) => Err(fail),
-    }
+    Ok(Items::from_vec(conds?))
 }
 
 #[cycle(depth)]
@@ -179,14 +173,14 @@ fn are_within(conds: &[Cond], limit: u32) -> bool
     true
 }
 
-/// Reads a condition of the step of this number. The steps that it names are to be earlier ones, and it is at most 32
-/// deep.
+/// Reads a condition of the step of this number. The steps that it names are to be earlier ones, and it is at most
+/// `MAX_CONDITION_DEPTH` deep.
 pub fn cond_of_json(alloc: Global, step: usize, json: &Json) -> Result<Cond, ReadFail>
     ensures { Reads (λ c. CondTree c (view json.now)) (CondStands step (view json.now)) result }
 {
     match cond_of_tree(alloc, step, json) {
         Ok(cond) => {
-            if is_within(&cond, DEPTH_LIMIT) {
+            if is_within(&cond, MAX_CONDITION_DEPTH) {
                 Ok(cond)
             } else {
                 Err(ReadFail::Declined(Decline::Range))
@@ -299,4 +293,9 @@ fn conds_to_json(alloc: Global, conds: &[Cond]) -> Result<Vec<Json>, NoMemory>
 /// No two kinds of condition have one `type`.
 pub fn condition_kinds_differ()
     ensures { RowsDiffer (map (λ row. row.now) CONDITION_KINDS) }
+{}
+
+/// A JSON tree is the form of at most one condition.
+pub fn no_tree_is_two_conditions()
+    ensures { NoTreeIsTwoConditions }
 {}

@@ -7,20 +7,22 @@ mod batches;
 mod condition_json;
 mod conditions;
 mod holding;
+mod limits;
 mod outcomes;
 mod result_json;
 mod running;
 mod step_numbers;
 
 pub use batch_json::{
-    STEP_LIMIT, batch_of_json, batch_to_json, fitting_batches_are_read, no_tree_is_two_batches,
+    batch_of_json, batch_to_json, fitting_batches_are_read, no_tree_is_two_batches,
 };
 pub use batches::{Batch, Step, Steps};
 pub use condition_json::{
-    CONDITION_KINDS, DEPTH_LIMIT, cond_of_json, cond_to_json, condition_kinds_differ,
+    CONDITION_KINDS, cond_of_json, cond_to_json, condition_kinds_differ, no_tree_is_two_conditions,
 };
 pub use conditions::{Cond, Conds};
 pub use holding::holds;
+pub use limits::{MAX_CONDITION_DEPTH, MAX_STEPS, limits_are};
 pub use outcomes::{BatchResult, Outcome, Outcomes};
 pub use result_json::{
     batch_result_of_json, batch_result_to_json, batch_results_are_read,

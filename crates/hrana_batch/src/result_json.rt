@@ -10,7 +10,7 @@ ghost use Rattle.hrana_batch.specs.Written.{result_entry, error_entry, batch_res
 
 use crate::{BatchResult, Outcome, Outcomes};
 use hrana_stmt::{error_of_json, error_to_json, result_of_json, result_to_json};
-use hrana_value::{Decline, NoMemory, ReadFail, member, with_item};
+use hrana_value::{Decline, NoMemory, ReadFail, member_or_null, with_item};
 use serde_json::{Map, Value as Json, put};
 use std::alloc::Global;
 
@@ -22,15 +22,9 @@ fn outcome_of_entries(alloc: Global, done: &Json, failed: &Json) -> Result<Outco
         if failed.is_null() {
             return Ok(Outcome::Skipped);
         }
-        match error_of_json(alloc, failed) {
-            Ok(error) => Ok(Outcome::Failed(error)),
-            Err(fail) => Err(fail),
-        }
+        Ok(Outcome::Failed(error_of_json(alloc, failed)?))
     } else if failed.is_null() {
-        match result_of_json(alloc, done) {
-            Ok(given) => Ok(Outcome::Done(given)),
-            Err(fail) => Err(fail),
-        }
+        Ok(Outcome::Done(result_of_json(alloc, done)?))
     } else {
         Err(ReadFail::Declined(Decline::Shape))
     }
@@ -44,10 +38,7 @@ fn outcomes_of_items(alloc: Global, results: &[Json], errors: &[Json]) -> Result
     for i in 0..results.len() {
         outcomes = with_item(outcomes, outcome_of_entries(alloc, &results[i], &errors[i]));
     }
-    match outcomes {
-        Ok(outcomes) => Ok(Outcomes::from_vec(outcomes)),
-        Err(fail) => Err(fail),
-    }
+    Ok(Outcomes::from_vec(outcomes?))
 }
 
 fn outcomes_of_lists(alloc: Global, results: &[Json], errors: &[Json]) -> Result<Outcomes, ReadFail>
@@ -78,8 +69,8 @@ pub fn batch_result_of_json(alloc: Global, json: &Json) -> Result<BatchResult, R
     ensures { Reads (λ r. BatchResultTree r (view json.now)) (BatchResultStands (view json.now)) result }
 {
     let null = Json::Null;
-    let results = member(json, "step_results", &null);
-    match outcomes_of_parts(alloc, results, member(json, "step_errors", &null)) {
+    let results = member_or_null(json, "step_results", &null);
+    match outcomes_of_parts(alloc, results, member_or_null(json, "step_errors", &null)) {
         Ok(outcomes) => Ok(BatchResult { outcomes }),
         Err(fail) => Err(fail),
     }
@@ -157,65 +148,3 @@ pub fn no_tree_is_two_batch_results()
 pub fn batch_results_are_read()
     ensures { BatchResultsAreRead }
 {}
-
-#[cfg(test)]
-mod tests {
-    use super::*;
-
-    fn read(alloc: Global, text: &str) -> Result<BatchResult, ReadFail> {
-        match Json::from_str(alloc, text) {
-            Ok(json) => batch_result_of_json(alloc, &json),
-            Err(_) => Err(ReadFail::NoMemory),
-        }
-    }
-
-    #[test]
-    fn results_are_written_as_they_were_read(rt: HostRuntime) {
-        let cases = [
-            r#"{"step_errors":[],"step_results":[]}"#,
-            r#"{"step_errors":[null],"step_results":[null]}"#,
-            r#"{"step_errors":[null,{"code":"CONSTRAINT","message":"primary key constraint failed"},null],"step_results":[{"affected_row_count":1,"cols":[],"last_insert_rowid":"1","rows":[]},null,null]}"#,
-        ];
-        let alloc = rt.alloc();
-        for text in cases {
-            match read(alloc, text) {
-                Ok(given) => {
-                    let json = batch_result_to_json(alloc, &given).expect(&rt, "there is memory");
-                    let written = json.to_string(alloc).expect(&rt, "there is memory");
-                    assert_eq!(rt; written.as_str(), text);
-                }
-                Err(_) => assert!(rt; false, "at {text}"),
-            }
-        }
-    }
-
-    #[test]
-    fn others_are_declined(rt: HostRuntime) {
-        let cases = [
-            ("[]", Decline::Shape),
-            (r#"{"step_results":[]}"#, Decline::Shape),
-            (
-                r#"{"step_errors":[],"step_results":[null]}"#,
-                Decline::Shape,
-            ),
-            (
-                r#"{"step_errors":[{"message":"x"}],"step_results":[{"affected_row_count":0,"cols":[],"rows":[]}]}"#,
-                Decline::Shape,
-            ),
-            (
-                r#"{"step_errors":[5],"step_results":[null]}"#,
-                Decline::Shape,
-            ),
-            (
-                r#"{"step_errors":[null,null],"step_results":[{"affected_row_count":0,"cols":[],"rows":[[{"type":"float"}]]},{"affected_row_count":-1,"cols":[],"rows":[]}]}"#,
-                Decline::Range,
-            ),
-        ];
-        for (text, want) in cases {
-            match read(rt.alloc(), text) {
-                Ok(_) => assert!(rt; false, "at {text}"),
-                Err(fail) => assert_eq!(rt; fail, ReadFail::Declined(want), "at {text}"),
-            }
-        }
-    }
-}

@@ -12,6 +12,7 @@ use Rattle.hrana_value.specs.Members.{part_at, Int32Tree, Int32Stands, TextTree,
 use Rattle.hrana_value.proofs.TextLemmas.{one}
 use Rattle.hrana_value.proofs.DeclineLemmas.{NoneStands-parts}
 use Rattle.hrana_value.proofs.PartLemmas.{TextTree-none, WholeStands-none}
+use Rattle.hrana_stmt.specs.declared.limits.TheConstants.{MAX_SQL_BYTES}
 use Rattle.hrana_stmt.proofs.StmtLemmas.{StmtTree-one, StmtTree-fits, SqlTree-one, sql_none, sql_fits}
 use Rattle.hrana_batch.specs.Tree.{NoTreeIsTwoBatches, FittingBatchesAreRead}
 use Rattle.stream_requests.specs.declared.asks.Ask.TheVariants.{Execute, Batch, Sequence, Cursor, Fetch, CloseCursor, GetAutocommit, StoreSql, CloseSql, Close}
@@ -43,14 +44,14 @@ AskMembers-one batches t a b e p q = cc e
 pub int32_none : (z : ℤ) (t : Data) → Int32Tree z t → NoneStands (Int32Stands t)
 int32_none z t p = WholeStands-none (FitsSigned w32) t z p.is p.fits
 
-stored_none : (s : List ℕ) (t : Data) → TextTree s t → length s ≤ 65536 → NoneStands (StoredTextStands t)
+stored_none : (s : List ℕ) (t : Data) → TextTree s t → length s ≤ MAX_SQL_BYTES → NoneStands (StoredTextStands t)
 stored_none s t is fits =
-    NoneStands-parts (TextStands t) (Only Range (IsSomeAnd (as_str t) (λ r. 65536 < length r))) (TextTree-none s t is)
-    (λ k here. let long : 65536 < length s = subst (λ o. IsSomeAnd o (λ r. 65536 < length r)) is here.1 in absurd (omega arith))
+    NoneStands-parts (TextStands t) (Only Range (IsSomeAnd (as_str t) (λ r. MAX_SQL_BYTES < length r))) (TextTree-none s t is)
+    (λ k here. let long : MAX_SQL_BYTES < length s = subst (λ o. IsSomeAnd o (λ r. MAX_SQL_BYTES < length r)) is here.1 in absurd (omega arith))
 
-stored_fits : (s : List ℕ) (t : Data) → TextTree s t → NoneStands (StoredTextStands t) → length s ≤ 65536
-stored_fits s t is none = elim (cases_lt 65536 (length s)) [
-  | inl long ↦ absurd (none Range (inr (refl, subst (λ o. IsSomeAnd o (λ r. 65536 < length r)) (sym is) long)))
+stored_fits : (s : List ℕ) (t : Data) → TextTree s t → NoneStands (StoredTextStands t) → length s ≤ MAX_SQL_BYTES
+stored_fits s t is none = elim (cases_lt MAX_SQL_BYTES (length s)) [
+  | inl long ↦ absurd (none Range (inr (refl, subst (λ o. IsSomeAnd o (λ r. MAX_SQL_BYTES < length r)) (sym is) long)))
   | inr fits ↦ fits
 ]
 

@@ -7,6 +7,7 @@ use Rattle.hrana_value.specs.declared.failures.Decline.{Decline}
 use Rattle.hrana_value.specs.declared.failures.Decline.TheVariants.{Range}
 use Rattle.hrana_value.specs.Declines.{NoneStands, EitherStands, Only}
 use Rattle.hrana_value.specs.Members.{part_at, TextTree, TextStands, Int32Tree, Int32Stands, Uint32Tree, Uint32Stands}
+use Rattle.hrana_stmt.specs.declared.limits.TheConstants.{MAX_SQL_BYTES}
 use Rattle.hrana_stmt.specs.Tree.{StmtTree, StmtStands, StmtFits, SqlTree, SqlStands, IsWithinSqlLimit}
 use Rattle.hrana_stmt.specs.Written.{stmt_data}
 use Rattle.hrana_stmt.specs.Puts.{put_sql, SqlIdFits}
@@ -36,11 +37,9 @@ AskMembers (Batch batch) t = BatchTree batch (part_at (codes "batch") t)
 AskMembers (Sequence sql) t = SqlTree sql t
 AskMembers (Cursor batch) t = BatchTree batch (part_at (codes "batch") t)
 AskMembers (Fetch count) t = Uint32Tree count (part_at (codes "max_count") t)
-AskMembers CloseCursor t = Unit {0}
-AskMembers GetAutocommit t = Unit {0}
 AskMembers (StoreSql id sql) t = Int32Tree id (part_at (codes "sql_id") t) × TextTree sql (part_at (codes "sql") t)
 AskMembers (CloseSql id) t = Int32Tree id (part_at (codes "sql_id") t)
-AskMembers Close t = Unit {0}
+AskMembers a t = Unit {0}
 
 -- the ask is of this kind, and its members stand in the tree
 pub record IsAskOf (k : AskKind) (a : Ask) (t : Data) : Type 0 where
@@ -50,9 +49,9 @@ pub record IsAskOf (k : AskKind) (a : Ask) (t : Data) : Type 0 where
 abbrev pub NothingStands : Decline → Type 0
 NothingStands d = ⊥
 
--- a text that is to be stored has at most 65,536 bytes
+-- a text that is to be stored has a greatest length
 abbrev pub StoredTextStands : Data → Decline → Type 0
-StoredTextStands t = EitherStands (TextStands t) (Only Range (IsSomeAnd (as_str t) (λ s. 65536 < length s)))
+StoredTextStands t = EitherStands (TextStands t) (Only Range (IsSomeAnd (as_str t) (λ s. MAX_SQL_BYTES < length s)))
 
 -- what stands in the members of an ask of this kind
 abbrev pub AskMembersStand : AskKind → Data → Decline → Type 0
@@ -61,11 +60,9 @@ AskMembersStand kind.Batch t = BatchStands (part_at (codes "batch") t)
 AskMembersStand kind.Sequence t = SqlStands t
 AskMembersStand kind.Cursor t = BatchStands (part_at (codes "batch") t)
 AskMembersStand kind.Fetch t = Uint32Stands (part_at (codes "max_count") t)
-AskMembersStand kind.CloseCursor t = NothingStands
-AskMembersStand kind.GetAutocommit t = NothingStands
 AskMembersStand kind.StoreSql t = EitherStands (Int32Stands (part_at (codes "sql_id") t)) (StoredTextStands (part_at (codes "sql") t))
 AskMembersStand kind.CloseSql t = Int32Stands (part_at (codes "sql_id") t)
-AskMembersStand kind.Close t = NothingStands
+AskMembersStand k t = NothingStands
 
 -- the ask breaks no limit, and the conditions of its batch name earlier steps
 abbrev pub AskFits : Ask → Type 0
@@ -73,12 +70,8 @@ AskFits (Execute stmt) = StmtFits stmt
 AskFits (Batch batch) = BatchFits batch
 AskFits (Sequence sql) = IsWithinSqlLimit sql
 AskFits (Cursor batch) = BatchFits batch
-AskFits (Fetch count) = Unit {0}
-AskFits CloseCursor = Unit {0}
-AskFits GetAutocommit = Unit {0}
-AskFits (StoreSql id sql) = length sql ≤ 65536
-AskFits (CloseSql id) = Unit {0}
-AskFits Close = Unit {0}
+AskFits (StoreSql id sql) = length sql ≤ MAX_SQL_BYTES
+AskFits a = Unit {0}
 
 -- ---- what is written
 
@@ -89,11 +82,9 @@ put_ask (Batch batch) ms = put (codes "batch") (batch_data batch) ms
 put_ask (Sequence sql) ms = put_sql sql ms
 put_ask (Cursor batch) ms = put (codes "batch") (batch_data batch) ms
 put_ask (Fetch count) ms = put (codes "max_count") (number (unsigned count)) ms
-put_ask CloseCursor ms = ms
-put_ask GetAutocommit ms = ms
 put_ask (StoreSql id sql) ms = put (codes "sql_id") (number (of_integer id)) (put (codes "sql") (string sql) ms)
 put_ask (CloseSql id) ms = put (codes "sql_id") (number (of_integer id)) ms
-put_ask Close ms = ms
+put_ask a ms = ms
 
 -- what is put is a form of the ask
 abbrev pub AskReadsBack : Ask → Type 0
@@ -102,11 +93,9 @@ AskReadsBack (Batch batch) = BatchTree batch (batch_data batch)
 AskReadsBack (Sequence sql) = SqlIdFits sql
 AskReadsBack (Cursor batch) = BatchTree batch (batch_data batch)
 AskReadsBack (Fetch count) = count < 2 ^ 32
-AskReadsBack CloseCursor = Unit {0}
-AskReadsBack GetAutocommit = Unit {0}
 AskReadsBack (StoreSql id sql) = FitsSigned w32 id
 AskReadsBack (CloseSql id) = FitsSigned w32 id
-AskReadsBack Close = Unit {0}
+AskReadsBack a = Unit {0}
 
 -- ---- laws
 

@@ -14,14 +14,13 @@ use Rattle.hrana_batch.specs.Written.{batch_result_data}
 use Rattle.stream_requests.specs.declared.asks.AskKind.{AskKind}
 use Rattle.stream_requests.specs.declared.asks.AskKind.TheVariants as kind
 use Rattle.stream_requests.specs.declared.replies.Reply.{Reply}
-use Rattle.stream_requests.specs.declared.replies.Reply.TheVariants.{StreamOpened, Execute, Batch, Sequence, Cursor, Fetched, CursorClosed, Autocommit, SqlStored, SqlClosed, Closed, Failed}
+use Rattle.stream_requests.specs.declared.replies.Reply.TheVariants.{Execute, Batch, Sequence, Cursor, Fetched, CursorClosed, Autocommit, SqlStored, SqlClosed, Closed}
 use Rattle.stream_requests.specs.Asks.{NothingStands}
 use Rattle.stream_requests.specs.Entries.{EntryTree, EntryStands}
 use Rattle.stream_requests.specs.WrittenEntries.{entries_data}
 
 -- the kind of ask that a reply answers; opening a stream is no ask, and a failure answers any
 abbrev pub answered_kind : Reply → Option AskKind
-answered_kind StreamOpened = None
 answered_kind (Execute r) = Some kind.Execute
 answered_kind (Batch r) = Some kind.Batch
 answered_kind Sequence = Some kind.Sequence
@@ -32,7 +31,7 @@ answered_kind (Autocommit auto) = Some kind.GetAutocommit
 answered_kind SqlStored = Some kind.StoreSql
 answered_kind SqlClosed = Some kind.CloseSql
 answered_kind Closed = Some kind.Close
-answered_kind (Failed e) = None
+answered_kind r = None
 
 abbrev pub BooleanTree : Bool → Data → Type 0
 BooleanTree b t = as_bool t ≡ Some b
@@ -42,18 +41,11 @@ BooleanStands t = Only Shape (as_bool t ≡ None)
 
 -- the members of a reply besides its `type`
 abbrev pub ReplyMembers : Reply → Data → Type 0
-ReplyMembers StreamOpened t = Unit {0}
 ReplyMembers (Execute r) t = StmtResultTree r (part_at (codes "result") t)
 ReplyMembers (Batch r) t = BatchResultTree r (part_at (codes "result") t)
-ReplyMembers Sequence t = Unit {0}
-ReplyMembers Cursor t = Unit {0}
 ReplyMembers (Fetched entries done) t = ArrayTree EntryTree entries (part_at (codes "entries") t) × BooleanTree done (part_at (codes "done") t)
-ReplyMembers CursorClosed t = Unit {0}
 ReplyMembers (Autocommit auto) t = BooleanTree auto (part_at (codes "is_autocommit") t)
-ReplyMembers SqlStored t = Unit {0}
-ReplyMembers SqlClosed t = Unit {0}
-ReplyMembers Closed t = Unit {0}
-ReplyMembers (Failed e) t = Unit {0}
+ReplyMembers r t = Unit {0}
 
 -- the reply answers asks of this kind, and its members stand in the tree
 pub record IsReplyTo (k : AskKind) (r : Reply) (t : Data) : Type 0 where
@@ -64,46 +56,26 @@ pub record IsReplyTo (k : AskKind) (r : Reply) (t : Data) : Type 0 where
 abbrev pub ReplyMembersStand : AskKind → Data → Decline → Type 0
 ReplyMembersStand kind.Execute t = StmtResultStands (part_at (codes "result") t)
 ReplyMembersStand kind.Batch t = BatchResultStands (part_at (codes "result") t)
-ReplyMembersStand kind.Sequence t = NothingStands
-ReplyMembersStand kind.Cursor t = NothingStands
 ReplyMembersStand kind.Fetch t = EitherStands (ArrayStands EntryStands (part_at (codes "entries") t)) (BooleanStands (part_at (codes "done") t))
-ReplyMembersStand kind.CloseCursor t = NothingStands
 ReplyMembersStand kind.GetAutocommit t = BooleanStands (part_at (codes "is_autocommit") t)
-ReplyMembersStand kind.StoreSql t = NothingStands
-ReplyMembersStand kind.CloseSql t = NothingStands
-ReplyMembersStand kind.Close t = NothingStands
+ReplyMembersStand k t = NothingStands
 
 -- ---- what is written
 
 -- the members of a reply, put into an object
 abbrev pub put_reply : Reply → Members → Members
-put_reply StreamOpened ms = ms
 put_reply (Execute r) ms = put (codes "result") (result_data r) ms
 put_reply (Batch r) ms = put (codes "result") (batch_result_data r) ms
-put_reply Sequence ms = ms
-put_reply Cursor ms = ms
 put_reply (Fetched entries done) ms = put (codes "entries") (entries_data entries) (put (codes "done") (boolean done) ms)
-put_reply CursorClosed ms = ms
 put_reply (Autocommit auto) ms = put (codes "is_autocommit") (boolean auto) ms
-put_reply SqlStored ms = ms
-put_reply SqlClosed ms = ms
-put_reply Closed ms = ms
-put_reply (Failed e) ms = ms
+put_reply r ms = ms
 
 -- what is put is a form of the reply
 abbrev pub ReplyReadsBack : Reply → Type 0
-ReplyReadsBack StreamOpened = Unit {0}
 ReplyReadsBack (Execute r) = StmtResultTree r (result_data r)
 ReplyReadsBack (Batch r) = BatchResultTree r (batch_result_data r)
-ReplyReadsBack Sequence = Unit {0}
-ReplyReadsBack Cursor = Unit {0}
 ReplyReadsBack (Fetched entries done) = ArrayTree EntryTree entries (entries_data entries)
-ReplyReadsBack CursorClosed = Unit {0}
-ReplyReadsBack (Autocommit auto) = Unit {0}
-ReplyReadsBack SqlStored = Unit {0}
-ReplyReadsBack SqlClosed = Unit {0}
-ReplyReadsBack Closed = Unit {0}
-ReplyReadsBack (Failed e) = Unit {0}
+ReplyReadsBack r = Unit {0}
 
 -- ---- laws
 

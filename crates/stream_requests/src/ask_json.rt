@@ -10,9 +10,10 @@ ghost use Rattle.stream_requests.specs.Asks.{IsAskOf, AskMembersStand, StoredTex
 
 use crate::{Ask, AskKind};
 use hrana_batch::{batch_of_json, batch_to_json, fitting_batches_are_read, no_tree_is_two_batches};
-use hrana_stmt::{SQL_LIMIT, put_sql, sql_of_json, stmt_of_json, stmt_to_json};
+use hrana_stmt::{MAX_SQL_BYTES, put_sql, sql_of_json, stmt_of_json, stmt_to_json};
 use hrana_value::{
-    Decline, NoMemory, ReadFail, Txt, both, int32_of_json, member, text_of_json, uint32_of_json,
+    Decline, NoMemory, ReadFail, Txt, both_readings, int32_of_json, member_or_null, members,
+    text_of_json, uint32_of_json,
 };
 use serde_json::{Map, Value as Json, json, put};
 use std::alloc::Global;
@@ -20,7 +21,7 @@ use std::alloc::Global;
 fn execute_of_json(alloc: Global, json: &Json) -> Result<Ask, ReadFail>
     ensures { Reads (λ a. IsAskOf AskKind.Execute a (view json.now)) (AskMembersStand AskKind.Execute (view json.now)) result }
 {
-    match stmt_of_json(alloc, member(json, "stmt", &Json::Null)) {
+    match stmt_of_json(alloc, member_or_null(json, "stmt", &Json::Null)) {
         Ok(stmt) => Ok(Ask::Execute(stmt)),
         Err(fail) => Err(fail),
     }
@@ -29,7 +30,7 @@ fn execute_of_json(alloc: Global, json: &Json) -> Result<Ask, ReadFail>
 fn batch_ask_of_json(alloc: Global, json: &Json) -> Result<Ask, ReadFail>
     ensures { Reads (λ a. IsAskOf AskKind.Batch a (view json.now)) (AskMembersStand AskKind.Batch (view json.now)) result }
 {
-    match batch_of_json(alloc, member(json, "batch", &Json::Null)) {
+    match batch_of_json(alloc, member_or_null(json, "batch", &Json::Null)) {
         Ok(batch) => Ok(Ask::Batch(batch)),
         Err(fail) => Err(fail),
     }
@@ -38,16 +39,14 @@ fn batch_ask_of_json(alloc: Global, json: &Json) -> Result<Ask, ReadFail>
 fn sequence_of_json(alloc: Global, json: &Json) -> Result<Ask, ReadFail>
     ensures { Reads (λ a. IsAskOf AskKind.Sequence a (view json.now)) (AskMembersStand AskKind.Sequence (view json.now)) result }
 {
-    match sql_of_json(alloc, json) {
-        Ok(sql) => Ok(Ask::Sequence(sql)),
-        Err(fail) => Err(fail),
-    }
+    let sql = sql_of_json(alloc, json)?;
+    Ok(Ask::Sequence(sql))
 }
 
 fn cursor_of_json(alloc: Global, json: &Json) -> Result<Ask, ReadFail>
     ensures { Reads (λ a. IsAskOf AskKind.Cursor a (view json.now)) (AskMembersStand AskKind.Cursor (view json.now)) result }
 {
-    match batch_of_json(alloc, member(json, "batch", &Json::Null)) {
+    match batch_of_json(alloc, member_or_null(json, "batch", &Json::Null)) {
         Ok(batch) => Ok(Ask::Cursor(batch)),
         Err(fail) => Err(fail),
     }
@@ -56,18 +55,16 @@ fn cursor_of_json(alloc: Global, json: &Json) -> Result<Ask, ReadFail>
 fn fetch_of_json(json: &Json) -> Result<Ask, ReadFail>
     ensures { Reads (λ a. IsAskOf AskKind.Fetch a (view json.now)) (AskMembersStand AskKind.Fetch (view json.now)) result }
 {
-    match uint32_of_json(member(json, "max_count", &Json::Null)) {
-        Ok(count) => Ok(Ask::Fetch(count)),
-        Err(fail) => Err(fail),
-    }
+    let count = uint32_of_json(member_or_null(json, "max_count", &Json::Null))?;
+    Ok(Ask::Fetch(count))
 }
 
 fn text_limit(json: &Json) -> Result<(), ReadFail>
-    ensures { Reads (λ _. Unit {0}) (Only Range (IsSomeAnd (as_str (view json.now)) (λ s. 65536 < length s))) result }
+    ensures { Reads (λ _. Unit {0}) (Only Range (IsSomeAnd (as_str (view json.now)) (λ s. MAX_SQL_BYTES < length s))) result }
 {
     match json.as_str() {
         Some(text) => {
-            if text.len() > SQL_LIMIT {
+            if text.len() > MAX_SQL_BYTES {
                 Err(ReadFail::Declined(Decline::Range))
             } else {
                 Ok(())
@@ -80,47 +77,41 @@ fn text_limit(json: &Json) -> Result<(), ReadFail>
 fn stored_text_of_json(alloc: Global, json: &Json) -> Result<Txt, ReadFail>
     ensures { Reads (λ s. TextTree s (view json.now)) (StoredTextStands (view json.now)) result }
 {
-    match both(text_of_json(alloc, json), text_limit(json)) {
-        Ok((text, ())) => Ok(text),
-        Err(fail) => Err(fail),
-    }
+    let (text, ()) = both_readings(text_of_json(alloc, json), text_limit(json))?;
+    Ok(text)
 }
 
 fn stored_of_parts(alloc: Global, id: &Json, sql: &Json) -> Result<(i32, Txt), ReadFail>
     ensures { Reads (λ read. Int32Tree read.0 (view id.now) × TextTree read.1 (view sql.now)) (EitherStands (Int32Stands (view id.now)) (StoredTextStands (view sql.now))) result }
 {
     let id = int32_of_json(id);
-    both(id, stored_text_of_json(alloc, sql))
+    both_readings(id, stored_text_of_json(alloc, sql))
 }
 
-/// Reads the number and the text of an SQL text to be stored, which has at most 65,536 bytes.
+/// Reads the number and the text of an SQL text to be stored, which has at most `MAX_SQL_BYTES` bytes.
 pub fn stored_of_json(alloc: Global, json: &Json) -> Result<(i32, Txt), ReadFail>
     ensures { Reads (λ read. HasInt32 (view json.now) (codes "sql_id") read.0 × HasText (view json.now) (codes "sql") read.1) (AskMembersStand AskKind.StoreSql (view json.now)) result }
 {
     let null = Json::Null;
-    let id = member(json, "sql_id", &null);
-    stored_of_parts(alloc, id, member(json, "sql", &null))
+    let id = member_or_null(json, "sql_id", &null);
+    stored_of_parts(alloc, id, member_or_null(json, "sql", &null))
 }
 
 fn store_sql_of_json(alloc: Global, json: &Json) -> Result<Ask, ReadFail>
     ensures { Reads (λ a. IsAskOf AskKind.StoreSql a (view json.now)) (AskMembersStand AskKind.StoreSql (view json.now)) result }
 {
-    match stored_of_json(alloc, json) {
-        Ok((id, sql)) => Ok(Ask::StoreSql { id, sql }),
-        Err(fail) => Err(fail),
-    }
+    let (id, sql) = stored_of_json(alloc, json)?;
+    Ok(Ask::StoreSql { id, sql })
 }
 
 fn close_sql_of_json(json: &Json) -> Result<Ask, ReadFail>
     ensures { Reads (λ a. IsAskOf AskKind.CloseSql a (view json.now)) (AskMembersStand AskKind.CloseSql (view json.now)) result }
 {
-    match int32_of_json(member(json, "sql_id", &Json::Null)) {
-        Ok(id) => Ok(Ask::CloseSql(id)),
-        Err(fail) => Err(fail),
-    }
+    let id = int32_of_json(member_or_null(json, "sql_id", &Json::Null))?;
+    Ok(Ask::CloseSql(id))
 }
 
-/// Reads the members of an ask of this kind. A text to be stored has at most 65,536 bytes.
+/// Reads the members of an ask of this kind. A text to be stored has at most `MAX_SQL_BYTES` bytes.
 pub fn ask_of_json(alloc: Global, kind: AskKind, json: &Json) -> Result<Ask, ReadFail>
     ensures { Reads (λ a. IsAskOf kind a (view json.now)) (AskMembersStand kind (view json.now)) result }
 {

@@ -1,9 +1,5 @@
-ghost use Rattle.std.specs.Prelude.{◌≡◌, [], ◌∷◌, ◌++◌, OnOk, OnErr};
-
 use hrana_stmt::{Cols, WireError};
-use hrana_value::{NoMemory, Values};
-use std::alloc::Global;
-use std::marker::Model;
+use hrana_value::{List, Values};
 
 /// An entry of a cursor: what happened next in the batch that it runs.
 #[derive(Debug, Drop)]
@@ -39,51 +35,5 @@ pub enum EntryKind {
     Error,
 }
 
-/// A list of cursor entries. It keeps the allocator that `new` takes.
-#[derive(Debug, Drop)]
-pub struct EntryList {
-    items: Vec<CursorEntry>,
-}
-
-impl Model for EntryList {
-    ghost use Rattle.std.specs.Prelude.{List};
-    ghost use Rattle.stream_requests.specs.declared.entries.CursorEntry.{CursorEntry};
-
-    ghost Value = { List CursorEntry };
-
-    ghost view = { λ entries. entries.items.items };
-}
-
-impl EntryList {
-    pub fn new(alloc: Global) -> EntryList
-        ensures { result ≡ [] }
-    {
-        EntryList {
-            items: Vec::new(alloc),
-        }
-    }
-
-    /// The entries themselves, with no copy.
-    pub fn from_vec(items: Vec<CursorEntry>) -> EntryList
-        ensures { result ≡ items.items }
-    {
-        EntryList { items }
-    }
-
-    /// Adds an entry at the end. A refused entry is dropped.
-    pub fn push(&mut self, entry: CursorEntry) -> Result<(), NoMemory>
-        ensures ok { OnOk result (self.new ≡ self.old ++ entry ∷ []) }
-        ensures err { OnErr result (self.new ≡ self.old) }
-    {
-        match self.items.push(entry) {
-            Ok(()) => Ok(()),
-            Err(_) => Err(NoMemory),
-        }
-    }
-
-    pub fn as_slice(&self) -> &[CursorEntry]
-        ensures { result.now ≡ self.now }
-    {
-        self.items.as_slice()
-    }
-}
+/// A list of cursor entries.
+pub type EntryList = List<CursorEntry>;

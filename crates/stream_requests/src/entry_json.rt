@@ -13,12 +13,13 @@ ghost use Rattle.stream_requests.specs.declared.entries.EntryKind.{EntryKind};
 
 use crate::{CursorEntry, EntryKind, EntryList};
 use hrana_stmt::{
-    Cols, WireError, cols_of_json, cols_to_json, error_of_json, error_to_json,
-    optional_int64_to_json, row_of_json, row_to_json,
+    Cols, WireError, cols_to_json, error_of_json, error_to_json, optional_int64_to_json,
+    row_to_json,
 };
 use hrana_value::{
-    Decline, NoMemory, ReadFail, Values, both, index_of, member, optional_int64_text_of_json,
-    text_member, uint32_of_json, uint64_of_json, with_item,
+    Decline, JsonForm, NoMemory, ReadFail, Values, both_readings, index_of, list_of_json,
+    member_or_null, members, optional_int64_text_of_json, text_member, uint32_of_json,
+    uint64_of_json,
 };
 use serde_json::{Map, Value as Json, json, put};
 use std::alloc::Global;
@@ -52,62 +53,51 @@ fn entry_kind_of(text: &str) -> Option<EntryKind>
 fn begin_of_json(alloc: Global, json: &Json) -> Result<CursorEntry, ReadFail>
     ensures { Reads (λ e. IsEntryOf EntryKind.StepBegin e (view json.now)) (EntryMembersStand EntryKind.StepBegin (view json.now)) result }
 {
-    let null = Json::Null;
-    let step = uint32_of_json(member(json, "step", &null));
-    match both(step, cols_of_json(alloc, member(json, "cols", &null))) {
-        Ok((step, cols)) => Ok(CursorEntry::StepBegin { step, cols }),
-        Err(fail) => Err(fail),
-    }
+    members!(json; step = "step": uint32_of_json(), cols = "cols": list_of_json(alloc));
+    let (step, cols) = both_readings(step, cols)?;
+    Ok(CursorEntry::StepBegin { step, cols })
 }
 
 fn end_of_parts(affected: &Json, rowid: &Json) -> Result<(u64, Option<i64>), ReadFail>
     ensures { Reads (λ read. Uint64Tree read.0 (view affected.now) × OptionalTree Int64TextTree read.1 (view rowid.now)) (EitherStands (Uint64Stands (view affected.now)) (OptionalStands Int64TextStands (view rowid.now))) result }
 {
     let affected = uint64_of_json(affected);
-    both(affected, optional_int64_text_of_json(rowid))
+    both_readings(affected, optional_int64_text_of_json(rowid))
 }
 
 fn end_of_json(json: &Json) -> Result<CursorEntry, ReadFail>
     ensures { Reads (λ e. IsEntryOf EntryKind.StepEnd e (view json.now)) (EntryMembersStand EntryKind.StepEnd (view json.now)) result }
 {
     let null = Json::Null;
-    let affected = member(json, "affected_row_count", &null);
-    match end_of_parts(affected, member(json, "last_insert_rowid", &null)) {
-        Ok((affected, last_rowid)) => Ok(CursorEntry::StepEnd {
-            affected,
-            last_rowid,
-        }),
-        Err(fail) => Err(fail),
-    }
+    let affected = member_or_null(json, "affected_row_count", &null);
+    let rowid = member_or_null(json, "last_insert_rowid", &null);
+    let (affected, last_rowid) = end_of_parts(affected, rowid)?;
+    Ok(CursorEntry::StepEnd {
+        affected,
+        last_rowid,
+    })
 }
 
 fn step_error_of_json(alloc: Global, json: &Json) -> Result<CursorEntry, ReadFail>
     ensures { Reads (λ e. IsEntryOf EntryKind.StepError e (view json.now)) (EntryMembersStand EntryKind.StepError (view json.now)) result }
 {
-    let null = Json::Null;
-    let step = uint32_of_json(member(json, "step", &null));
-    match both(step, error_of_json(alloc, member(json, "error", &null))) {
-        Ok((step, error)) => Ok(CursorEntry::StepError { step, error }),
-        Err(fail) => Err(fail),
-    }
+    members!(json; step = "step": uint32_of_json(), error = "error": error_of_json(alloc));
+    let (step, error) = both_readings(step, error)?;
+    Ok(CursorEntry::StepError { step, error })
 }
 
 fn row_entry_of_json(alloc: Global, json: &Json) -> Result<CursorEntry, ReadFail>
     ensures { Reads (λ e. IsEntryOf EntryKind.Row e (view json.now)) (EntryMembersStand EntryKind.Row (view json.now)) result }
 {
-    match row_of_json(alloc, member(json, "row", &Json::Null)) {
-        Ok(row) => Ok(CursorEntry::Row(row)),
-        Err(fail) => Err(fail),
-    }
+    let row = list_of_json(alloc, member_or_null(json, "row", &Json::Null))?;
+    Ok(CursorEntry::Row(row))
 }
 
 fn error_entry_of_json(alloc: Global, json: &Json) -> Result<CursorEntry, ReadFail>
     ensures { Reads (λ e. IsEntryOf EntryKind.Error e (view json.now)) (EntryMembersStand EntryKind.Error (view json.now)) result }
 {
-    match error_of_json(alloc, member(json, "error", &Json::Null)) {
-        Ok(error) => Ok(CursorEntry::Error(error)),
-        Err(fail) => Err(fail),
-    }
+    let error = error_of_json(alloc, member_or_null(json, "error", &Json::Null))?;
+    Ok(CursorEntry::Error(error))
 }
 
 fn entry_of_members(alloc: Global, kind: EntryKind, json: &Json) -> Result<CursorEntry, ReadFail>
@@ -135,16 +125,13 @@ pub fn entry_of_json(alloc: Global, json: &Json) -> Result<CursorEntry, ReadFail
     }
 }
 
-fn entries_of_items(alloc: Global, items: &[Json]) -> Result<EntryList, ReadFail>
-    ensures { Reads (λ entries. ItemsTree EntryTree entries (items_view items.now)) (ItemsStand EntryStands (items_view items.now)) result }
-{
-    let mut entries = Ok(Vec::new(alloc));
-    for item in items {
-        entries = with_item(entries, entry_of_json(alloc, item));
-    }
-    match entries {
-        Ok(entries) => Ok(EntryList::from_vec(entries)),
-        Err(fail) => Err(fail),
+impl JsonForm for CursorEntry {
+    ghost tree = { EntryTree };
+
+    ghost stands = { EntryStands };
+
+    fn of_json(alloc: Global, json: &Json) -> Result<CursorEntry, ReadFail> {
+        entry_of_json(alloc, json)
     }
 }
 
@@ -152,10 +139,7 @@ fn entries_of_items(alloc: Global, items: &[Json]) -> Result<EntryList, ReadFail
 pub fn entries_of_json(alloc: Global, json: &Json) -> Result<EntryList, ReadFail>
     ensures { Reads (λ entries. ArrayTree EntryTree entries (view json.now)) (ArrayStands EntryStands (view json.now)) result }
 {
-    match json {
-        Json::Array(items) => entries_of_items(alloc, items.as_slice()),
-        _ => Err(ReadFail::Declined(Decline::Shape)),
-    }
+    list_of_json(alloc, json)
 }
 
 fn begin_members(alloc: Global, step: u32, cols: Json) -> Result<Json, NoMemory>

@@ -8,8 +8,6 @@ mod entries;
 mod entry_json;
 mod replies;
 mod reply_json;
-#[cfg(test)]
-mod tests;
 
 pub use ask_json::{
     ask_of_json, fitting_asks_are_read, no_members_are_two_asks, put_ask, stored_of_json,

@@ -12,23 +12,21 @@ use hrana_batch::{
     no_tree_is_two_batch_results,
 };
 use hrana_stmt::{result_of_json, result_to_json};
-use hrana_value::{Decline, NoMemory, ReadFail, both, member};
+use hrana_value::{Decline, NoMemory, ReadFail, both_readings, member_or_null, members};
 use serde_json::{Map, Value as Json, put};
 use std::alloc::Global;
 
 fn executed_of_json(alloc: Global, json: &Json) -> Result<Reply, ReadFail>
     ensures { Reads (λ r. IsReplyTo AskKind.Execute r (view json.now)) (ReplyMembersStand AskKind.Execute (view json.now)) result }
 {
-    match result_of_json(alloc, member(json, "result", &Json::Null)) {
-        Ok(given) => Ok(Reply::Execute(given)),
-        Err(fail) => Err(fail),
-    }
+    let given = result_of_json(alloc, member_or_null(json, "result", &Json::Null))?;
+    Ok(Reply::Execute(given))
 }
 
 fn batch_reply_of_json(alloc: Global, json: &Json) -> Result<Reply, ReadFail>
     ensures { Reads (λ r. IsReplyTo AskKind.Batch r (view json.now)) (ReplyMembersStand AskKind.Batch (view json.now)) result }
 {
-    match batch_result_of_json(alloc, member(json, "result", &Json::Null)) {
+    match batch_result_of_json(alloc, member_or_null(json, "result", &Json::Null)) {
         Ok(given) => Ok(Reply::Batch(given)),
         Err(fail) => Err(fail),
     }
@@ -43,35 +41,19 @@ fn boolean_of_json(json: &Json) -> Result<bool, ReadFail>
     }
 }
 
-fn fetched_of_parts(
-    alloc: Global,
-    entries: &Json,
-    done: &Json,
-) -> Result<(EntryList, bool), ReadFail>
-    ensures { Reads (λ read. ArrayTree EntryTree read.0 (view entries.now) × BooleanTree read.1 (view done.now)) (EitherStands (ArrayStands EntryStands (view entries.now)) (BooleanStands (view done.now))) result }
-{
-    let entries = entries_of_json(alloc, entries);
-    both(entries, boolean_of_json(done))
-}
-
 fn fetched_of_json(alloc: Global, json: &Json) -> Result<Reply, ReadFail>
     ensures { Reads (λ r. IsReplyTo AskKind.Fetch r (view json.now)) (ReplyMembersStand AskKind.Fetch (view json.now)) result }
 {
-    let null = Json::Null;
-    let entries = member(json, "entries", &null);
-    match fetched_of_parts(alloc, entries, member(json, "done", &null)) {
-        Ok((entries, done)) => Ok(Reply::Fetched { entries, done }),
-        Err(fail) => Err(fail),
-    }
+    members!(json; entries = "entries": entries_of_json(alloc), done = "done": boolean_of_json());
+    let (entries, done) = both_readings(entries, done)?;
+    Ok(Reply::Fetched { entries, done })
 }
 
 fn autocommit_of_json(json: &Json) -> Result<Reply, ReadFail>
     ensures { Reads (λ r. IsReplyTo AskKind.GetAutocommit r (view json.now)) (ReplyMembersStand AskKind.GetAutocommit (view json.now)) result }
 {
-    match boolean_of_json(member(json, "is_autocommit", &Json::Null)) {
-        Ok(auto) => Ok(Reply::Autocommit(auto)),
-        Err(fail) => Err(fail),
-    }
+    let auto = boolean_of_json(member_or_null(json, "is_autocommit", &Json::Null))?;
+    Ok(Reply::Autocommit(auto))
 }
 
 /// Reads the members of a reply to asks of this kind.

@@ -28,7 +28,7 @@ use Rattle.ws_messages.specs.declared.kinds.Kind.{Kind}
 use Rattle.ws_messages.specs.declared.kinds.Kind.TheVariants as kind
 use Rattle.ws_messages.specs.Kinds.{name_of, kind_of, IsStreamAsk}
 use Rattle.ws_messages.specs.Requests.{RequestTree, RequestFits, IsFormed}
-use Rattle.ws_messages.specs.Client.{ClientTree, ClientFits, IsClientText, FittingClientMessagesAreRead}
+use Rattle.ws_messages.specs.Client.{ClientTree, HasClientForm, ClientFits, IsClientText, FittingClientMessagesAreRead}
 use Rattle.ws_messages.specs.WrittenClient.{integer, on_stream, request_data, client_data, RequestReadsBack, ClientReadsBack}
 
 -- ---- forms
@@ -77,18 +77,13 @@ request_back (FetchCursor cursor count) formed h = record { formed = tt; kind = 
 request_back (StoreSql id text) formed h = record { formed = tt; kind = refl; members = (int32_back id h, refl) }
 request_back (CloseSql id) formed h = record { formed = tt; kind = refl; members = int32_back id h }
 
-formed_of : (r : WsRequest) → RequestFits r → IsFormed r
-formed_of (OpenStream stream) fits = tt
-formed_of (OnStream stream a) fits = fits.0
-formed_of r fits = tt
-
 token_back : (o : Option (List ℕ)) → OptionalTree TextTree o (optional_text o)
 token_back None = refl
 token_back (Some s) = (λ e. cc e, refl)
 
-pub client_back : (m : ClientMsg) → ClientFits m → ClientReadsBack m → ClientTree m (client_data m)
-client_back (Hello jwt) fits h = (refl, token_back jwt)
-client_back (Request id r) fits h = (refl, int32_back id h.0, request_back r (formed_of r fits) h.1)
+pub client_back : (m : ClientMsg) → HasClientForm m → ClientReadsBack m → ClientTree m (client_data m)
+client_back (Hello jwt) formed h = (refl, token_back jwt)
+client_back (Request id r) formed h = (refl, int32_back id h.0, request_back r formed h.1)
 
 -- ---- no floats
 
@@ -141,7 +136,7 @@ depth_put_ask Close ms h fits q = q
 
 depth_request : (r : WsRequest) → RequestReadsBack r → RequestFits r → depth (request_data r) ≤ 71
 depth_request (OpenStream stream) h fits = omega arith
-depth_request (OnStream stream a) h fits = omega (arith, depth_put_ask a (on_stream stream (kind_of (ask_kind a))) h.1 fits.1 (omega arith))
+depth_request (OnStream stream a) h fits = omega (arith, depth_put_ask a (on_stream stream (kind_of (ask_kind a))) h.1 fits (omega arith))
 depth_request (OpenCursor stream cursor batch) h fits = omega (arith, depth-batch_data batch (batch_data batch) h.1 fits)
 depth_request (CloseCursor cursor) h fits = omega arith
 depth_request (FetchCursor cursor count) h fits = omega arith
@@ -154,6 +149,6 @@ depth-client_data (Request id r) h fits = omega (arith, depth_request r h.1 fits
 
 -- ---- the text
 
-pub encoded : FittingClientMessagesAreRead → (m : ClientMsg) (text bytes : List ℕ) → text ≡ bytes → IsUtf8 bytes → read bytes ≡ Some (client_data m) → ClientReadsBack m → ClientFits m → IsClientText text m
-encoded are_read m text bytes same utf8 is h fits =
-    let tree = client_back m fits h in (client_data m, (subst IsUtf8 (sym same) utf8, ap read same ∙ is), tree, (are_read m (client_data m) tree).0 fits)
+pub encoded : FittingClientMessagesAreRead → (m : ClientMsg) (text bytes : List ℕ) → text ≡ bytes → IsUtf8 bytes → read bytes ≡ Some (client_data m) → ClientReadsBack m → HasClientForm m → ClientFits m → IsClientText text m
+encoded are_read m text bytes same utf8 is h formed fits =
+    let tree = client_back m formed h in (client_data m, (subst IsUtf8 (sym same) utf8, ap read same ∙ is), tree, (are_read m (client_data m) tree).0 fits)

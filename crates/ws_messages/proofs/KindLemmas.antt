@@ -75,17 +75,12 @@ kind_of-one j k e = let same : Some j ≡ Some k = sym (asked j) ∙ ap ask_of e
 
 -- the kinds that ask a stream
 abbrev pub IsStreamKind : Kind → Type 0
-IsStreamKind OpenStream = ⊥
 IsStreamKind CloseStream = Unit {0}
 IsStreamKind Execute = Unit {0}
 IsStreamKind Batch = Unit {0}
-IsStreamKind OpenCursor = ⊥
-IsStreamKind CloseCursor = ⊥
-IsStreamKind FetchCursor = ⊥
 IsStreamKind Sequence = Unit {0}
-IsStreamKind StoreSql = ⊥
-IsStreamKind CloseSql = ⊥
 IsStreamKind GetAutocommit = Unit {0}
+IsStreamKind k = ⊥
 
 pub kind_of-stream : (k : AskKind) → IsStreamAsk k → IsStreamKind (kind_of k)
 kind_of-stream ask.Execute h = tt

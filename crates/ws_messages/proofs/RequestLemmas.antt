@@ -79,22 +79,22 @@ of_stream k t d h here = absurd h
 
 -- ---- requests are read
 
-members_none : FittingBatchesAreRead → FittingAsksAreRead → (r : WsRequest) (t : Data) → RequestMembers r t → RequestFits r → NoneStands (RequestMembersStand (request_kind r) t)
-members_none batches laws (OpenStream stream) t p fits = int32_none stream _ p
-members_none batches laws (OnStream stream a) t p fits =
-    λ d here. NoneStands-parts (StreamStands t) (AskMembersStand (ask_kind a) t) (int32_none stream _ p.0) ((laws a t p.1).0 fits.1) d (to_stream (ask_kind a) t d fits.0 here)
-members_none batches laws (OpenCursor stream cursor batch) t p fits =
+members_none : FittingBatchesAreRead → FittingAsksAreRead → (r : WsRequest) (t : Data) → IsFormed r → RequestMembers r t → RequestFits r → NoneStands (RequestMembersStand (request_kind r) t)
+members_none batches laws (OpenStream stream) t formed p fits = int32_none stream _ p
+members_none batches laws (OnStream stream a) t formed p fits =
+    λ d here. NoneStands-parts (StreamStands t) (AskMembersStand (ask_kind a) t) (int32_none stream _ p.0) ((laws a t p.1).0 fits) d (to_stream (ask_kind a) t d formed here)
+members_none batches laws (OpenCursor stream cursor batch) t formed p fits =
     NoneStands-parts (EitherStands (StreamStands t) (CursorStands t)) (BatchStands (part_at (codes "batch") t))
     (NoneStands-parts (StreamStands t) (CursorStands t) (int32_none stream _ p.0.0) (int32_none cursor _ p.0.1)) ((batches batch (part_at (codes "batch") t) p.1).0 fits)
-members_none batches laws (CloseCursor cursor) t p fits = int32_none cursor _ p
-members_none batches laws (FetchCursor cursor count) t p fits =
+members_none batches laws (CloseCursor cursor) t formed p fits = int32_none cursor _ p
+members_none batches laws (FetchCursor cursor count) t formed p fits =
     NoneStands-parts (CursorStands t) (Uint32Stands (part_at (codes "max_count") t)) (int32_none cursor _ p.0) (uint32_none count _ p.1)
-members_none batches laws (StoreSql id sql) t p fits = (laws (asks.StoreSql id sql) t p).0 fits
-members_none batches laws (CloseSql id) t p fits = int32_none id _ p
+members_none batches laws (StoreSql id sql) t formed p fits = (laws (asks.StoreSql id sql) t p).0 fits
+members_none batches laws (CloseSql id) t formed p fits = int32_none id _ p
 
 members_fit : FittingBatchesAreRead → FittingAsksAreRead → (r : WsRequest) (t : Data) → IsFormed r → RequestMembers r t → NoneStands (RequestMembersStand (request_kind r) t) → RequestFits r
 members_fit batches laws (OpenStream stream) t formed p none = tt
-members_fit batches laws (OnStream stream a) t formed p none = (formed, (laws a t p.1).1 (λ d here. none d (of_stream (ask_kind a) t d formed (inr here))))
+members_fit batches laws (OnStream stream a) t formed p none = (laws a t p.1).1 (λ d here. none d (of_stream (ask_kind a) t d formed (inr here)))
 members_fit batches laws (OpenCursor stream cursor batch) t formed p none = (batches batch (part_at (codes "batch") t) p.1).1 (λ d here. none d (inr here))
 members_fit batches laws (CloseCursor cursor) t formed p none = tt
 members_fit batches laws (FetchCursor cursor count) t formed p none = tt
@@ -103,7 +103,7 @@ members_fit batches laws (CloseSql id) t formed p none = tt
 
 pub RequestTree-fits : FittingBatchesAreRead → FittingAsksAreRead → FittingRequestsAreRead
 RequestTree-fits batches laws r t p = (
-  λ fits d here. members_none batches laws r t p.members fits d (of_kind (request_kind r) t d p.kind here),
+  λ fits d here. members_none batches laws r t p.formed p.members fits d (of_kind (request_kind r) t d p.kind here),
   λ none. members_fit batches laws r t p.formed p.members (λ d here. none d (in_members (request_kind r) p.kind here)),
 )
 

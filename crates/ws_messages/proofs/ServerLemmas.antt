@@ -9,7 +9,6 @@ use Rattle.hrana_value.specs.Declines.{rank_of, Reads, NoneStands, IsFirst, IsDe
 use Rattle.hrana_value.specs.Members.{HasText, HasInt32}
 use Rattle.hrana_value.proofs.TextLemmas.{one, apart}
 use Rattle.hrana_value.proofs.DeclineLemmas.{Reads-weaken, Reads-same, IsFirst-same}
-use Rattle.hrana_stmt.specs.Tree.{WireErrorStands}
 use Rattle.hrana_stmt.proofs.ResultReadings.{WireErrorTree-one, WireErrorTree-none}
 use Rattle.stream_requests.specs.declared.asks.AskKind.{AskKind}
 use Rattle.stream_requests.specs.declared.asks.AskKind.TheVariants as ask
@@ -153,12 +152,6 @@ ok_rest t u reading.NoMemory same is p = tt
 ok_rest t u (reading.Declined k) same is p =
     IsFirst-same (ResponseStands (response_of t)) (RestStands t) k (λ d here. inl (is, here)) (λ d here. elim here [ inl a ↦ a.1 | inr b ↦ absurd (apart _ _ _ refl is b.0) ])
     (subst (λ v. IsFirst (ResponseStands v) k) same p)
-
-pub error_rest : (t u : Data) (f : ReadFail) → u ≡ error_of t → HasText t (codes "type") (codes "response_error") → IsDeclinedAs (WireErrorStands u) f → IsDeclinedAs (RestStands t) f
-error_rest t u reading.NoMemory same is p = tt
-error_rest t u (reading.Declined k) same is p =
-    IsFirst-same (WireErrorStands (error_of t)) (RestStands t) k (λ d here. inr (is, here)) (λ d here. elim here [ inl a ↦ absurd (apart _ _ _ refl is a.0) | inr b ↦ b.1 ])
-    (subst (λ v. IsFirst (WireErrorStands v) k) same p)
 
 bad_reply : RepliesAreRead → (t : Data) (id : ℤ) (k : Decline) → IsNumbered t → HasInt32 t (codes "request_id") id → IsFirst (RestStands t) k → rank_of k < rank_of Float → IsBadReply t
 bad_reply are_read t id k numbered number p less = record {

@@ -19,7 +19,7 @@ use Rattle.ws_messages.specs.declared.kinds.Kind.{Kind}
 use Rattle.ws_messages.specs.declared.messages.ServerMsg.{ServerMsg}
 use Rattle.ws_messages.specs.declared.messages.ServerMsg.TheVariants as server
 use Rattle.ws_messages.specs.Kinds.{name_of}
-use Rattle.ws_messages.specs.Server.{ServerTree, ServerFits, IsServerText}
+use Rattle.ws_messages.specs.Server.{ServerTree, HasServerForm, IsServerText}
 use Rattle.ws_messages.specs.WrittenClient.{kind_member}
 use Rattle.ws_messages.specs.WrittenServer.{response_data, server_data, ServerReadsBack}
 use Rattle.ws_messages.proofs.ClientWritten.{int32_back}
@@ -44,11 +44,11 @@ kind_back : (r : Reply) (k : Kind) → HasText (response_data k r) (codes "type"
 kind_back StreamOpened k = refl
 kind_back r k = refl
 
-pub server_back : (m : ServerMsg) → ServerFits m → ServerReadsBack m → ServerTree m (server_data m)
-server_back server.HelloOk fits h = refl
-server_back (server.HelloError e) fits h = (refl, h)
-server_back (server.Ok id k r) fits h = (refl, int32_back id h.0, record { kind = kind_back r k; reply = record { form = fits; members = reply_back r k h.1 } })
-server_back (server.Error id e) fits h = (refl, int32_back id h.0, h.1)
+pub server_back : (m : ServerMsg) → HasServerForm m → ServerReadsBack m → ServerTree m (server_data m)
+server_back server.HelloOk formed h = refl
+server_back (server.HelloError e) formed h = (refl, h)
+server_back (server.Ok id k r) formed h = (refl, int32_back id h.0, record { kind = kind_back r k; reply = record { form = formed; members = reply_back r k h.1 } })
+server_back (server.Error id e) formed h = (refl, int32_back id h.0, h.1)
 
 -- ---- no floats
 
@@ -84,5 +84,5 @@ depth-server_data (server.Error id e) = omega (arith, depth-error_data e)
 
 -- ---- the text
 
-pub encoded : (m : ServerMsg) (text bytes : List ℕ) → text ≡ bytes → IsUtf8 bytes → read bytes ≡ Some (server_data m) → ServerReadsBack m → ServerFits m → IsServerText text m
-encoded m text bytes same utf8 is h fits = (server_data m, (subst IsUtf8 (sym same) utf8, ap read same ∙ is), server_back m fits h)
+pub encoded : (m : ServerMsg) (text bytes : List ℕ) → text ≡ bytes → IsUtf8 bytes → read bytes ≡ Some (server_data m) → ServerReadsBack m → HasServerForm m → IsServerText text m
+encoded m text bytes same utf8 is h formed = (server_data m, (subst IsUtf8 (sym same) utf8, ap read same ∙ is), server_back m formed h)

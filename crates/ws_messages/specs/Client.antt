@@ -12,8 +12,8 @@ use Rattle.ws_messages.specs.declared.messages.ClientMsg.TheVariants.{Hello, Req
 use Rattle.ws_messages.specs.declared.messages.MsgFail.{MsgFail}
 use Rattle.ws_messages.specs.declared.messages.MsgFail.TheVariants.{Violation, Declined}
 use Rattle.ws_messages.specs.declared.messages.Why.{Why}
-use Rattle.ws_messages.specs.declared.messages.Why.TheVariants.{NotJson, NotObject, NoKind, UnknownKind, BadHello, BadRequestId, BadReply}
-use Rattle.ws_messages.specs.Requests.{RequestTree, RequestStands, RequestFits}
+use Rattle.ws_messages.specs.declared.messages.Why.TheVariants.{NotJson, NotObject, NoKind, UnknownKind, BadHello, BadRequestId}
+use Rattle.ws_messages.specs.Requests.{IsFormed, RequestTree, RequestStands, RequestFits}
 
 -- ---- trees
 
@@ -39,15 +39,19 @@ ClientDeclines t id d = HasText t (codes "type") (codes "request") × HasInt32 t
 
 -- how a tree breaks the protocol
 abbrev pub ClientViolates : Data → Why → Type 0
-ClientViolates t NotJson = ⊥
 ClientViolates t NotObject = as_object t ≡ None
 ClientViolates t NoKind = (as_object t ≡ None → ⊥) × (text_at (codes "type") t ≡ None)
 ClientViolates t UnknownKind = (s : List ℕ) × HasText t (codes "type") s × (s ≡ codes "hello" → ⊥) × (s ≡ codes "request" → ⊥)
 ClientViolates t BadHello = HasText t (codes "type") (codes "hello") × (part_at (codes "jwt") t ≡ null → ⊥) × (text_at (codes "jwt") t ≡ None)
 ClientViolates t BadRequestId = HasText t (codes "type") (codes "request") × HasNoInt32 t (codes "request_id")
-ClientViolates t BadReply = ⊥
+ClientViolates t why = ⊥
 
--- the message has the forms that its places allow, and breaks no limit
+-- what a stream is asked is what a request may ask it
+abbrev pub HasClientForm : ClientMsg → Type 0
+HasClientForm (Hello jwt) = Unit {0}
+HasClientForm (Request id request) = IsFormed request
+
+-- the message breaks no limit
 abbrev pub ClientFits : ClientMsg → Type 0
 ClientFits (Hello jwt) = Unit {0}
 ClientFits (Request id request) = RequestFits request

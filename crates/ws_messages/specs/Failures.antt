@@ -1,6 +1,6 @@
 -- What is answered where the rest of a numbered message of the server could not be read.
 use Rattle.std.specs.Prelude.{ℤ}
-use Rattle.hrana_value.specs.declared.failures.Decline.TheVariants.{Unknown, Describe, Shape, BothSql, BadStep, Range, Float}
+use Rattle.hrana_value.specs.declared.failures.Decline.TheVariants.{Float}
 use Rattle.hrana_value.specs.declared.failures.ReadFail.{ReadFail}
 use Rattle.hrana_value.specs.declared.failures.ReadFail.TheVariants as reading
 use Rattle.ws_messages.specs.declared.messages.MsgFail.{MsgFail}
@@ -10,10 +10,5 @@ use Rattle.ws_messages.specs.declared.messages.Why.TheVariants.{BadReply}
 -- a float is declined, and all else is a bad reply
 abbrev pub rest_failure : ℤ → ReadFail → MsgFail
 rest_failure id (reading.Declined Float) = Declined id Float
-rest_failure id (reading.Declined Unknown) = Violation BadReply
-rest_failure id (reading.Declined Describe) = Violation BadReply
-rest_failure id (reading.Declined Shape) = Violation BadReply
-rest_failure id (reading.Declined BothSql) = Violation BadReply
-rest_failure id (reading.Declined BadStep) = Violation BadReply
-rest_failure id (reading.Declined Range) = Violation BadReply
+rest_failure id (reading.Declined d) = Violation BadReply
 rest_failure id reading.NoMemory = NoMemory

@@ -36,10 +36,6 @@ abbrev pub IsStreamAsk : AskKind → Type 0
 IsStreamAsk ask.Execute = Unit {0}
 IsStreamAsk ask.Batch = Unit {0}
 IsStreamAsk ask.Sequence = Unit {0}
-IsStreamAsk ask.Cursor = ⊥
-IsStreamAsk ask.Fetch = ⊥
-IsStreamAsk ask.CloseCursor = ⊥
 IsStreamAsk ask.GetAutocommit = Unit {0}
-IsStreamAsk ask.StoreSql = ⊥
-IsStreamAsk ask.CloseSql = ⊥
 IsStreamAsk ask.Close = Unit {0}
+IsStreamAsk k = ⊥

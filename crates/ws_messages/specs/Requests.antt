@@ -5,6 +5,7 @@ use Rattle.hrana_value.specs.declared.failures.Decline.{Decline}
 use Rattle.hrana_value.specs.declared.failures.Decline.TheVariants.{Unknown, Describe, Shape}
 use Rattle.hrana_value.specs.Declines.{NoneStands, EitherStands}
 use Rattle.hrana_value.specs.Members.{HasText, HasInt32, text_at, part_at, Int32Stands, Uint32Tree, Uint32Stands}
+use Rattle.hrana_stmt.specs.declared.limits.TheConstants.{MAX_SQL_BYTES}
 use Rattle.hrana_batch.specs.Tree.{BatchTree, BatchStands, BatchFits}
 use Rattle.stream_requests.specs.declared.asks.AskKind.{AskKind}
 use Rattle.stream_requests.specs.declared.asks.AskKind.TheVariants as ask
@@ -26,13 +27,8 @@ request_kind (CloseSql id) = kind.CloseSql
 
 -- what a stream is asked is a statement, a batch, a sequence, whether it is in autocommit, or to close
 abbrev pub IsFormed : WsRequest → Type 0
-IsFormed (OpenStream stream) = Unit {0}
 IsFormed (OnStream stream asked) = IsStreamAsk (ask_kind asked)
-IsFormed (OpenCursor stream cursor batch) = Unit {0}
-IsFormed (CloseCursor cursor) = Unit {0}
-IsFormed (FetchCursor cursor count) = Unit {0}
-IsFormed (StoreSql id sql) = Unit {0}
-IsFormed (CloseSql id) = Unit {0}
+IsFormed r = Unit {0}
 
 -- the members of a request besides its `type`
 abbrev pub RequestMembers : WsRequest → Data → Type 0
@@ -87,15 +83,12 @@ pub data RequestStands (t : Data) (d : Decline) : Type 0 where
   other_kind : (s : List ℕ) → d ≡ Unknown → HasText t (codes "type") s → (s ≡ codes "describe" → ⊥) → ((k : Kind) → name_of k ≡ s → ⊥) → RequestStands t d
   in_members : (k : Kind) → HasText t (codes "type") (name_of k) → RequestMembersStand k t d → RequestStands t d
 
--- the request has the form that its place allows, and breaks no limit
+-- the request breaks no limit
 abbrev pub RequestFits : WsRequest → Type 0
-RequestFits (OpenStream stream) = Unit {0}
-RequestFits (OnStream stream asked) = IsStreamAsk (ask_kind asked) × AskFits asked
+RequestFits (OnStream stream asked) = AskFits asked
 RequestFits (OpenCursor stream cursor batch) = BatchFits batch
-RequestFits (CloseCursor cursor) = Unit {0}
-RequestFits (FetchCursor cursor count) = Unit {0}
-RequestFits (StoreSql id sql) = length sql ≤ 65536
-RequestFits (CloseSql id) = Unit {0}
+RequestFits (StoreSql id sql) = length sql ≤ MAX_SQL_BYTES
+RequestFits r = Unit {0}
 
 -- ---- laws
 

@@ -19,7 +19,7 @@ use Rattle.ws_messages.specs.declared.messages.ServerMsg.TheVariants as server
 use Rattle.ws_messages.specs.declared.messages.MsgFail.{MsgFail}
 use Rattle.ws_messages.specs.declared.messages.MsgFail.TheVariants.{Violation, Declined}
 use Rattle.ws_messages.specs.declared.messages.Why.{Why}
-use Rattle.ws_messages.specs.declared.messages.Why.TheVariants.{NotJson, NotObject, NoKind, UnknownKind, BadHello, BadRequestId, BadReply}
+use Rattle.ws_messages.specs.declared.messages.Why.TheVariants.{NotJson, NotObject, NoKind, UnknownKind, BadRequestId, BadReply}
 use Rattle.ws_messages.specs.Kinds.{name_of}
 use Rattle.ws_messages.specs.Client.{HasNoInt32, IsJson, IsNoJson}
 
@@ -109,20 +109,17 @@ IsNoServerKind s = (s ≡ codes "hello_ok" → ⊥) × (s ≡ codes "hello_error
 
 -- how a tree breaks the protocol
 abbrev pub ServerViolates : Data → Why → Type 0
-ServerViolates t NotJson = ⊥
 ServerViolates t NotObject = as_object t ≡ None
 ServerViolates t NoKind = (as_object t ≡ None → ⊥) × (text_at (codes "type") t ≡ None)
 ServerViolates t UnknownKind = (s : List ℕ) × HasText t (codes "type") s × IsNoServerKind s
-ServerViolates t BadHello = ⊥
 ServerViolates t BadRequestId = IsNumbered t × HasNoInt32 t (codes "request_id")
 ServerViolates t BadReply = IsBadReply t
+ServerViolates t why = ⊥
 
 -- the reply of a response has the form of its kind
-abbrev pub ServerFits : ServerMsg → Type 0
-ServerFits server.HelloOk = Unit {0}
-ServerFits (server.HelloError e) = Unit {0}
-ServerFits (server.Ok id k reply) = reply_kind reply ≡ Some k
-ServerFits (server.Error id e) = Unit {0}
+abbrev pub HasServerForm : ServerMsg → Type 0
+HasServerForm (server.Ok id k reply) = reply_kind reply ≡ Some k
+HasServerForm m = Unit {0}
 
 -- ---- texts
 

@@ -7,7 +7,7 @@ ghost use Rattle.hrana_value.specs.Declines.{NoneStands};
 ghost use Rattle.hrana_value.specs.Members.{HasText};
 ghost use Rattle.hrana_value.specs.declared.failures.Decline.{Decline};
 ghost use Rattle.ws_messages.specs.declared.messages.Why.{Why};
-ghost use Rattle.ws_messages.specs.Client.{ClientTree, ClientStands, ClientDeclines, ClientViolates, ClientFits, IsClientText, IsDeclinedRequest, BreaksAsClient, NoTreeIsTwoClientMessages, FittingClientMessagesAreRead, NoTextHasTwoClientAnswers};
+ghost use Rattle.ws_messages.specs.Client.{ClientTree, ClientStands, ClientDeclines, ClientViolates, HasClientForm, ClientFits, IsClientText, IsDeclinedRequest, BreaksAsClient, NoTreeIsTwoClientMessages, FittingClientMessagesAreRead, NoTextHasTwoClientAnswers};
 ghost use Rattle.ws_messages.specs.WrittenClient.{request_object, client_data, ClientReadsBack};
 
 use crate::request_json::request_of_json;
@@ -16,7 +16,7 @@ use crate::{ClientMsg, MsgFail, Why, WsRequest};
 use hrana_batch::{fitting_batches_are_read, no_tree_is_two_batches};
 use hrana_stmt::optional_text_to_json;
 use hrana_value::{
-    NoMemory, ReadFail, Txt, int32_member, member, optional_text_of_json, text_member,
+    NoMemory, ReadFail, Txt, int32_member, member_or_null, option_of_json, text_member,
 };
 use serde_json::{Map, Value as Json, json, put};
 use std::alloc::Global;
@@ -29,7 +29,7 @@ fn hello_of_json(alloc: Global, json: &Json) -> Result<ClientMsg, MsgFail>
     ensures violation { IfErr result (λ e. (why : Why) → e ≡ MsgFail.Violation why → ClientViolates (view json.now) why) }
     ensures declined { IfErr result (λ e. (id : ℤ) (d : Decline) → e ≡ MsgFail.Declined id d → ClientDeclines (view json.now) id d) }
 {
-    match optional_text_of_json(alloc, member(json, "jwt", &Json::Null)) {
+    match option_of_json(alloc, member_or_null(json, "jwt", &Json::Null)) {
         Ok(jwt) => Ok(ClientMsg::Hello { jwt }),
         Err(ReadFail::Declined(_)) => Err(MsgFail::Violation(Why::BadHello)),
         Err(ReadFail::NoMemory) => Err(MsgFail::NoMemory),
@@ -46,7 +46,7 @@ fn numbered_of_json(alloc: Global, json: &Json) -> Result<ClientMsg, MsgFail>
     let Some(request_id) = int32_member(json, "request_id") else {
         return Err(MsgFail::Violation(Why::BadRequestId));
     };
-    match request_of_json(alloc, member(json, "request", &Json::Null)) {
+    match request_of_json(alloc, member_or_null(json, "request", &Json::Null)) {
         Ok(request) => Ok(ClientMsg::Request {
             request_id,
             request,
@@ -141,8 +141,9 @@ fn client_to_json(alloc: Global, msg: &ClientMsg) -> Result<Json, NoMemory>
 }
 
 /// Writes a message of a client, compact and with its members in byte order. What is absent is left out, but a token
-/// that is absent is null.
+/// that is absent is null. What is asked of a stream is to be what a request may ask it.
 pub fn encode_client(alloc: Global, msg: &ClientMsg) -> Result<Txt, NoMemory>
+    requires { HasClientForm msg.now }
     ensures written { IfOk result (λ text. text ≡ compact_text (client_data msg.now)) }
     ensures reads_back { IfOk result (λ text. ClientFits msg.now → IsClientText text msg.now) }
 {

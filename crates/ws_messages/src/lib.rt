@@ -2,19 +2,19 @@
 #![tactic(auto)]
 
 mod client;
+mod forms;
 mod kinds;
 mod messages;
 mod request_json;
 mod request_written;
 mod response_json;
 mod server;
-#[cfg(test)]
-mod tests;
 
 pub use client::{
     decode_client, encode_client, fitting_client_messages_are_read, no_text_has_two_client_answers,
     no_tree_is_two_client_messages,
 };
+pub use forms::reply_has_form;
 pub use kinds::{Kind, REQUEST_KINDS, kind_name, kind_of_name, request_kinds_differ};
 pub use messages::{ClientMsg, MsgFail, ServerMsg, Why, WsRequest};
 pub use server::{

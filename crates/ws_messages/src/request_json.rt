@@ -9,7 +9,9 @@ ghost use Rattle.ws_messages.specs.Requests.{IsRequestOf, RequestTree, RequestSt
 
 use crate::{Kind, WsRequest, kind_of_name};
 use hrana_batch::batch_of_json;
-use hrana_value::{Decline, ReadFail, both, int32_of_json, member, text_member, uint32_of_json};
+use hrana_value::{
+    Decline, ReadFail, both_readings, int32_of_json, member_or_null, text_member, uint32_of_json,
+};
 use serde_json::Value as Json;
 use std::alloc::Global;
 use stream_requests::{Ask, AskKind, ask_of_json, stored_of_json};
@@ -23,48 +25,49 @@ fn asked_of_parts(
     ensures { Reads (λ read. Int32Tree read.0 (view stream.now) × IsAskOf kind read.1 (view json.now)) (EitherStands (Int32Stands (view stream.now)) (AskMembersStand kind (view json.now))) result }
 {
     let stream_id = int32_of_json(stream);
-    both(stream_id, ask_of_json(alloc, kind, json))
+    both_readings(stream_id, ask_of_json(alloc, kind, json))
 }
 
 fn on_stream_of_json(alloc: Global, kind: AskKind, json: &Json) -> Result<WsRequest, ReadFail>
     requires { IsStreamAsk kind }
     ensures { Reads (λ r. IsRequestOf (kind_of kind) r (view json.now)) (OnStreamStands kind (view json.now)) result }
 {
-    match asked_of_parts(alloc, kind, member(json, "stream_id", &Json::Null), json) {
-        Ok((stream_id, ask)) => Ok(WsRequest::OnStream { stream_id, ask }),
-        Err(fail) => Err(fail),
-    }
+    let (stream_id, ask) = asked_of_parts(
+        alloc,
+        kind,
+        member_or_null(json, "stream_id", &Json::Null),
+        json,
+    )?;
+    Ok(WsRequest::OnStream { stream_id, ask })
 }
 
 fn open_stream_of_json(json: &Json) -> Result<WsRequest, ReadFail>
     ensures { Reads (λ r. IsRequestOf Kind.OpenStream r (view json.now)) (RequestMembersStand Kind.OpenStream (view json.now)) result }
 {
-    match int32_of_json(member(json, "stream_id", &Json::Null)) {
-        Ok(stream_id) => Ok(WsRequest::OpenStream(stream_id)),
-        Err(fail) => Err(fail),
-    }
+    let stream_id = int32_of_json(member_or_null(json, "stream_id", &Json::Null))?;
+    Ok(WsRequest::OpenStream(stream_id))
 }
 
 fn ids_of_parts(stream: &Json, cursor: &Json) -> Result<(i32, i32), ReadFail>
     ensures { Reads (λ ids. Int32Tree ids.0 (view stream.now) × Int32Tree ids.1 (view cursor.now)) (EitherStands (Int32Stands (view stream.now)) (Int32Stands (view cursor.now))) result }
 {
     let stream_id = int32_of_json(stream);
-    both(stream_id, int32_of_json(cursor))
+    both_readings(stream_id, int32_of_json(cursor))
 }
 
 fn ids_of_json(json: &Json) -> Result<(i32, i32), ReadFail>
     ensures { Reads (λ ids. HasInt32 (view json.now) (codes "stream_id") ids.0 × HasInt32 (view json.now) (codes "cursor_id") ids.1) (EitherStands (StreamStands (view json.now)) (CursorStands (view json.now))) result }
 {
     let null = Json::Null;
-    let stream = member(json, "stream_id", &null);
-    ids_of_parts(stream, member(json, "cursor_id", &null))
+    let stream = member_or_null(json, "stream_id", &null);
+    ids_of_parts(stream, member_or_null(json, "cursor_id", &null))
 }
 
 fn open_cursor_of_json(alloc: Global, json: &Json) -> Result<WsRequest, ReadFail>
     ensures { Reads (λ r. IsRequestOf Kind.OpenCursor r (view json.now)) (RequestMembersStand Kind.OpenCursor (view json.now)) result }
 {
-    let batch = batch_of_json(alloc, member(json, "batch", &Json::Null));
-    match both(ids_of_json(json), batch) {
+    let batch = batch_of_json(alloc, member_or_null(json, "batch", &Json::Null));
+    match both_readings(ids_of_json(json), batch) {
         Ok((ids, batch)) => Ok(WsRequest::OpenCursor {
             stream_id: ids.0,
             cursor_id: ids.1,
@@ -77,49 +80,41 @@ fn open_cursor_of_json(alloc: Global, json: &Json) -> Result<WsRequest, ReadFail
 fn close_cursor_of_json(json: &Json) -> Result<WsRequest, ReadFail>
     ensures { Reads (λ r. IsRequestOf Kind.CloseCursor r (view json.now)) (RequestMembersStand Kind.CloseCursor (view json.now)) result }
 {
-    match int32_of_json(member(json, "cursor_id", &Json::Null)) {
-        Ok(cursor_id) => Ok(WsRequest::CloseCursor(cursor_id)),
-        Err(fail) => Err(fail),
-    }
+    let cursor_id = int32_of_json(member_or_null(json, "cursor_id", &Json::Null))?;
+    Ok(WsRequest::CloseCursor(cursor_id))
 }
 
 fn fetch_of_parts(cursor: &Json, count: &Json) -> Result<(i32, u32), ReadFail>
     ensures { Reads (λ read. Int32Tree read.0 (view cursor.now) × Uint32Tree read.1 (view count.now)) (EitherStands (Int32Stands (view cursor.now)) (Uint32Stands (view count.now))) result }
 {
     let cursor_id = int32_of_json(cursor);
-    both(cursor_id, uint32_of_json(count))
+    both_readings(cursor_id, uint32_of_json(count))
 }
 
 fn fetch_cursor_of_json(json: &Json) -> Result<WsRequest, ReadFail>
     ensures { Reads (λ r. IsRequestOf Kind.FetchCursor r (view json.now)) (RequestMembersStand Kind.FetchCursor (view json.now)) result }
 {
     let null = Json::Null;
-    let cursor = member(json, "cursor_id", &null);
-    match fetch_of_parts(cursor, member(json, "max_count", &null)) {
-        Ok((cursor_id, max_count)) => Ok(WsRequest::FetchCursor {
-            cursor_id,
-            max_count,
-        }),
-        Err(fail) => Err(fail),
-    }
+    let cursor = member_or_null(json, "cursor_id", &null);
+    let (cursor_id, max_count) = fetch_of_parts(cursor, member_or_null(json, "max_count", &null))?;
+    Ok(WsRequest::FetchCursor {
+        cursor_id,
+        max_count,
+    })
 }
 
 fn store_sql_of_json(alloc: Global, json: &Json) -> Result<WsRequest, ReadFail>
     ensures { Reads (λ r. IsRequestOf Kind.StoreSql r (view json.now)) (RequestMembersStand Kind.StoreSql (view json.now)) result }
 {
-    match stored_of_json(alloc, json) {
-        Ok((id, sql)) => Ok(WsRequest::StoreSql { id, sql }),
-        Err(fail) => Err(fail),
-    }
+    let (id, sql) = stored_of_json(alloc, json)?;
+    Ok(WsRequest::StoreSql { id, sql })
 }
 
 fn close_sql_of_json(json: &Json) -> Result<WsRequest, ReadFail>
     ensures { Reads (λ r. IsRequestOf Kind.CloseSql r (view json.now)) (RequestMembersStand Kind.CloseSql (view json.now)) result }
 {
-    match int32_of_json(member(json, "sql_id", &Json::Null)) {
-        Ok(id) => Ok(WsRequest::CloseSql(id)),
-        Err(fail) => Err(fail),
-    }
+    let id = int32_of_json(member_or_null(json, "sql_id", &Json::Null))?;
+    Ok(WsRequest::CloseSql(id))
 }
 
 fn request_of_members(alloc: Global, kind: Kind, json: &Json) -> Result<WsRequest, ReadFail>

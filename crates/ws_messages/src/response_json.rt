@@ -41,10 +41,7 @@ fn reply_of_members(alloc: Global, kind: Kind, json: &Json) -> Result<Reply, Rea
 fn response_of_kind(alloc: Global, kind: Kind, json: &Json) -> Result<(Kind, Reply), ReadFail>
     ensures { Reads (λ read. (read.0 ≡ kind) × IsReplyOf kind read.1 (view json.now)) (ResponseMembersStand kind (view json.now)) result }
 {
-    match reply_of_members(alloc, kind, json) {
-        Ok(reply) => Ok((kind, reply)),
-        Err(fail) => Err(fail),
-    }
+    Ok((kind, reply_of_members(alloc, kind, json)?))
 }
 
 /// Reads a response by its `type`: the kind of request that it answers, and the reply.

@@ -6,13 +6,13 @@ ghost use Rattle.hrana_value.specs.Members.{HasText};
 ghost use Rattle.hrana_value.specs.declared.failures.Decline.{Decline};
 ghost use Rattle.ws_messages.specs.declared.messages.Why.{Why};
 ghost use Rattle.ws_messages.specs.Failures.{rest_failure};
-ghost use Rattle.ws_messages.specs.Server.{ServerTree, ServerDeclines, ServerViolates, ServerFits, IsServerText, IsDeclinedReply, BreaksAsServer, NoTreeIsTwoServerMessages, ServerMessagesAreRead, NoTextHasTwoServerAnswers};
+ghost use Rattle.ws_messages.specs.Server.{ServerTree, ServerDeclines, ServerViolates, HasServerForm, IsServerText, IsDeclinedReply, BreaksAsServer, NoTreeIsTwoServerMessages, ServerMessagesAreRead, NoTextHasTwoServerAnswers};
 ghost use Rattle.ws_messages.specs.WrittenServer.{server_data, ServerReadsBack};
 
 use crate::response_json::{response_of_json, response_to_json};
 use crate::{Kind, MsgFail, ServerMsg, Why};
 use hrana_stmt::{WireError, error_of_json, error_to_json};
-use hrana_value::{Decline, NoMemory, ReadFail, Txt, int32_member, member, text_member};
+use hrana_value::{Decline, NoMemory, ReadFail, Txt, int32_member, member_or_null, text_member};
 use serde_json::{Map, Value as Json, json, put};
 use std::alloc::Global;
 use stream_requests::{Reply, no_members_are_two_replies, replies_are_read};
@@ -36,7 +36,7 @@ fn hello_error_of_json(alloc: Global, json: &Json) -> Result<ServerMsg, MsgFail>
     ensures violation { IfErr result (λ e. (why : Why) → e ≡ MsgFail.Violation why → ServerViolates (view json.now) why) }
     ensures declined { IfErr result (λ e. (id : ℤ) (d : Decline) → e ≡ MsgFail.Declined id d → ServerDeclines (view json.now) id d) }
 {
-    match error_of_json(alloc, member(json, "error", &Json::Null)) {
+    match error_of_json(alloc, member_or_null(json, "error", &Json::Null)) {
         Ok(error) => Ok(ServerMsg::HelloError(error)),
         Err(ReadFail::Declined(_)) => Err(MsgFail::Violation(Why::BadReply)),
         Err(ReadFail::NoMemory) => Err(MsgFail::NoMemory),
@@ -52,7 +52,7 @@ fn ok_of_json(alloc: Global, json: &Json) -> Result<ServerMsg, MsgFail>
     let Some(request_id) = int32_member(json, "request_id") else {
         return Err(MsgFail::Violation(Why::BadRequestId));
     };
-    match response_of_json(alloc, member(json, "response", &Json::Null)) {
+    match response_of_json(alloc, member_or_null(json, "response", &Json::Null)) {
         Ok((kind, reply)) => Ok(ServerMsg::Ok {
             request_id,
             kind,
@@ -71,7 +71,7 @@ fn error_msg_of_json(alloc: Global, json: &Json) -> Result<ServerMsg, MsgFail>
     let Some(request_id) = int32_member(json, "request_id") else {
         return Err(MsgFail::Violation(Why::BadRequestId));
     };
-    match error_of_json(alloc, member(json, "error", &Json::Null)) {
+    match error_of_json(alloc, member_or_null(json, "error", &Json::Null)) {
         Ok(error) => Ok(ServerMsg::Error { request_id, error }),
         Err(fail) => Err(rest_failure(request_id, fail)),
     }
@@ -183,11 +183,12 @@ fn server_to_json(alloc: Global, msg: &ServerMsg) -> Result<Json, NoMemory>
     }
 }
 
-/// Writes a message of the server, compact and with its members in byte order. What is absent is null. A reply is
-/// written under the `type` of the kind; what has not the form of its kind is no message.
+/// Writes a message of the server, compact and with its members in byte order. What is absent is null. A reply is to
+/// have the form of its kind.
 pub fn encode_server(alloc: Global, msg: &ServerMsg) -> Result<Txt, NoMemory>
+    requires { HasServerForm msg.now }
     ensures written { IfOk result (λ text. text ≡ compact_text (server_data msg.now)) }
-    ensures reads_back { IfOk result (λ text. ServerFits msg.now → IsServerText text msg.now) }
+    ensures reads_back { IfOk result (λ text. IsServerText text msg.now) }
 {
     let json = server_to_json(alloc, msg)?;
     Ok(Txt::from_string(json.to_string(alloc)?))

@@ -18,15 +18,15 @@ cond_of_tree-returns-in_default t c = kind_missing c.args.step (view c.args.json
 
 pub cond_of_tree-cond_of_tree-part-requires : goal.cond_of_tree-cond_of_tree-part-requires
 cond_of_tree-cond_of_tree-part-requires t c =
-    let less : depth (view c.member.result.now) < depth (view c.args.json.now) = member_depth (view c.args.json.now) (view c.member.result.now) c.in-Some.kind.now (codes "cond") (sym c.in-Some.ensures) c.member.ensures in (omega arith, tt)
+    let less : depth (view c.member_or_null.result.now) < depth (view c.args.json.now) = member_depth (view c.args.json.now) (view c.member_or_null.result.now) c.in-Some.kind.now (codes "cond") (sym c.in-Some.ensures) c.member_or_null.ensures in (omega arith, tt)
 
 pub cond_of_tree-conds_of_tree-parts-requires : goal.cond_of_tree-conds_of_tree-parts-requires
 cond_of_tree-conds_of_tree-parts-requires t c =
-    let less : depth (view c.member-in-Some-eq3.result.now) < depth (view c.args.json.now) = member_depth (view c.args.json.now) (view c.member-in-Some-eq3.result.now) c.in-Some.kind.now (codes "conds") (sym c.in-Some.ensures) c.member-in-Some-eq3.ensures in (omega arith, tt)
+    let less : depth (view c.member_or_null-in-Some-eq3.result.now) < depth (view c.args.json.now) = member_depth (view c.args.json.now) (view c.member_or_null-in-Some-eq3.result.now) c.in-Some.kind.now (codes "conds") (sym c.in-Some.ensures) c.member_or_null-in-Some-eq3.ensures in (omega arith, tt)
 
 pub cond_of_tree-conds_of_tree-parts-requires-in-Some-eq4 : goal.cond_of_tree-conds_of_tree-parts-requires-in-Some-eq4
 cond_of_tree-conds_of_tree-parts-requires-in-Some-eq4 t c =
-    let less : depth (view c.member-in-Some-eq4.result.now) < depth (view c.args.json.now) = member_depth (view c.args.json.now) (view c.member-in-Some-eq4.result.now) c.in-Some.kind.now (codes "conds") (sym c.in-Some.ensures) c.member-in-Some-eq4.ensures in (omega arith, tt)
+    let less : depth (view c.member_or_null-in-Some-eq4.result.now) < depth (view c.args.json.now) = member_depth (view c.args.json.now) (view c.member_or_null-in-Some-eq4.result.now) c.in-Some.kind.now (codes "conds") (sym c.in-Some.ensures) c.member_or_null-in-Some-eq4.ensures in (omega arith, tt)
 
 pub cond_of_tree-returns-in-Some-eq5 : goal.cond_of_tree-returns-in-Some-eq5
 cond_of_tree-returns-in-Some-eq5 t c =

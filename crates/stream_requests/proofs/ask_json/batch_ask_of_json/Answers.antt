@@ -11,9 +11,9 @@ use Rattle.stream_requests.proofs.ask_json.batch_ask_of_json.Goals as goal
 pub returns-in-Ok : goal.returns-in-Ok
 returns-in-Ok c =
     let t = view c.args.json.now in
-    part_made BatchTree BatchStands (λ a. IsAskOf kind.Batch a t) (view c.member.result.now) (part_at (codes "batch") t) c.batch_of_json.result c.in-Ok.batch (Batch c.in-Ok.batch) c.member.ensures c.in-Ok.is c.batch_of_json.ensures.reads (λ h. record { kind = refl; members = h })
+    part_made BatchTree BatchStands (λ a. IsAskOf kind.Batch a t) (view c.member_or_null.result.now) (part_at (codes "batch") t) c.batch_of_json.result c.in-Ok.batch (Batch c.in-Ok.batch) c.member_or_null.ensures c.in-Ok.is c.batch_of_json.ensures.reads (λ h. record { kind = refl; members = h })
 
 pub returns-in-Err : goal.returns-in-Err
 returns-in-Err c =
     let t = view c.args.json.now in
-    part_failed BatchTree BatchStands (λ a. IsAskOf kind.Batch a t) (view c.member.result.now) (part_at (codes "batch") t) c.batch_of_json.result c.in-Err.fail c.member.ensures c.in-Err.is c.batch_of_json.ensures.reads
+    part_failed BatchTree BatchStands (λ a. IsAskOf kind.Batch a t) (view c.member_or_null.result.now) (part_at (codes "batch") t) c.batch_of_json.result c.in-Err.fail c.member_or_null.ensures c.in-Err.is c.batch_of_json.ensures.reads

@@ -11,9 +11,9 @@ use Rattle.stream_requests.proofs.ask_json.execute_of_json.Goals as goal
 pub returns-in-Ok : goal.returns-in-Ok
 returns-in-Ok c =
     let t = view c.args.json.now in
-    part_made StmtTree StmtStands (λ a. IsAskOf kind.Execute a t) (view c.member.result.now) (part_at (codes "stmt") t) c.stmt_of_json.result c.in-Ok.stmt (Execute c.in-Ok.stmt) c.member.ensures c.in-Ok.is c.stmt_of_json.ensures (λ h. record { kind = refl; members = h })
+    part_made StmtTree StmtStands (λ a. IsAskOf kind.Execute a t) (view c.member_or_null.result.now) (part_at (codes "stmt") t) c.stmt_of_json.result c.in-Ok.stmt (Execute c.in-Ok.stmt) c.member_or_null.ensures c.in-Ok.is c.stmt_of_json.ensures (λ h. record { kind = refl; members = h })
 
 pub returns-in-Err : goal.returns-in-Err
 returns-in-Err c =
     let t = view c.args.json.now in
-    part_failed StmtTree StmtStands (λ a. IsAskOf kind.Execute a t) (view c.member.result.now) (part_at (codes "stmt") t) c.stmt_of_json.result c.in-Err.fail c.member.ensures c.in-Err.is c.stmt_of_json.ensures
+    part_failed StmtTree StmtStands (λ a. IsAskOf kind.Execute a t) (view c.member_or_null.result.now) (part_at (codes "stmt") t) c.stmt_of_json.result c.in-Err.fail c.member_or_null.ensures c.in-Err.is c.stmt_of_json.ensures

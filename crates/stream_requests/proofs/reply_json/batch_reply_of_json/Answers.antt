@@ -11,5 +11,5 @@ use Rattle.stream_requests.proofs.reply_json.batch_reply_of_json.Goals as goal
 pub returns-in-Ok : goal.returns-in-Ok
 returns-in-Ok c =
     let t = view c.args.json.now in
-    part_made BatchResultTree BatchResultStands (λ r. IsReplyTo kind.Batch r t) (view c.member.result.now) (part_at (codes "result") t) c.batch_result_of_json.result c.in-Ok.given (Batch c.in-Ok.given) c.member.ensures
+    part_made BatchResultTree BatchResultStands (λ r. IsReplyTo kind.Batch r t) (view c.member_or_null.result.now) (part_at (codes "result") t) c.batch_result_of_json.result c.in-Ok.given (Batch c.in-Ok.given) c.member_or_null.ensures
     c.in-Ok.is c.batch_result_of_json.ensures (λ h. record { answers = refl; members = h })

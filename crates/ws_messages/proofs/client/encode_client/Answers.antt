@@ -20,4 +20,4 @@ returns-clause-reads_back c = λ fits.
     let m = c.args.msg.now in let is = c.in_ok-json.ensures.written in let back = c.in_ok-json.ensures.reads_back in
     let deep = depth-client_data m back fits in
     encoded (ClientTree-fits (RequestTree-fits batches_fit (AskMembers-fits batches_fit))) m c.from_string.result _ c.from_string.ensures (IsUtf8-string_bytes c.in_ok-to_string.field-0)
-    (c.in_ok-to_string.ensures.reads_back (subst (λ d. depth d ≤ max_depth) (sym is) (omega (arith, deep))) ∙ ap Some is) back fits
+    (c.in_ok-to_string.ensures.reads_back (subst (λ d. depth d ≤ max_depth) (sym is) (omega (arith, deep))) ∙ ap Some is) back c.requires fits

@@ -1,8 +1,0 @@
-use Rattle.hrana_value.proofs.DeclineLemmas.{Reads-both-ok, Reads-both-failed}
-use Rattle.hrana_batch.proofs.batch_json.step_of_parts.Goals as goal
-
-pub returns-in-Ok : goal.returns-in-Ok
-returns-in-Ok c = Reads-both-ok c.both.ensures c.in-Ok.is c.optional_cond_of_json-condition.ensures c.stmt_of_json.ensures (λ h. h)
-
-pub returns-in-Err : goal.returns-in-Err
-returns-in-Err c = Reads-both-failed c.both.ensures c.in-Err.is c.optional_cond_of_json-condition.ensures c.stmt_of_json.ensures
