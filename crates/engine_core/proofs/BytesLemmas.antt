@@ -19,16 +19,3 @@ within_rest xs n m p q = let h = simp (take_rest, length-drop) at q in omega ari
 pub AppendsFront-take : (a b c : Option (List ℕ)) (xs : List ℕ) (n : ℕ) → Appends a b (take n xs) → Keeps b c → AppendsFront a c xs
 AppendsFront-take a b c xs n p q =
     record { front = take n xs; is_front = record { rest = drop n xs; whole = sym (take-append-drop n xs) }; written = Appends-kept a b c _ p q }
-
--- a front of bs after bytes that went out whole
-pub AppendsFront-after : (a b c : Option (List ℕ)) (xs bs : List ℕ) → Appends a b xs → AppendsFront b c bs → AppendsFront a c (xs ++ bs)
-AppendsFront-after a b c xs bs p q =
-    record {
-      front = xs ++ q.front;
-      is_front = record { rest = q.is_front.rest; whole = ap (λ l. xs ++ l) q.is_front.whole ∙ sym (append_assoc xs q.front q.is_front.rest) };
-      written = Appends-trans a b c _ _ p q.written;
-    }
-
--- all of the bytes are a front of them
-pub AppendsFront-whole : (a b : Option (List ℕ)) (xs : List ℕ) → Appends a b xs → AppendsFront a b xs
-AppendsFront-whole a b xs p = record { front = xs; is_front = record { rest = []; whole = sym (append-nil xs) }; written = p }

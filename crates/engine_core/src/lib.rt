@@ -12,8 +12,6 @@ mod outside;
 mod plain_keeper;
 mod statement;
 mod status;
-#[cfg(test)]
-mod tests;
 mod transfer;
 
 pub use byte_sink::ByteSink;

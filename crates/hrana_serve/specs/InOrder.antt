@@ -11,14 +11,12 @@ use Rattle.hrana_serve.specs.declared.ask.Asked.{Asked}
 use Rattle.hrana_serve.specs.declared.message.ClientMsg.TheVariants.{Execute}
 use Rattle.hrana_serve.specs.declared.replies.Out.{Out}
 use Rattle.hrana_serve.specs.declared.script.Event.{Event}
-use Rattle.hrana_serve.specs.declared.script.Event.TheVariants.{Opened, Text, Poll, Stop}
+use Rattle.hrana_serve.specs.declared.script.Event.TheVariants.{Text, Poll}
 
 -- the event brings no request for the stream
 abbrev pub BringsNone : Event → Type 0
 BringsNone (Text conn text) = (id stream : ℤ) (stmt : Stmt) → IsMessage (Execute id stream stmt) text → ⊥
-BringsNone (Opened conn) = Unit {0}
-BringsNone (Poll stream) = Unit {0}
-BringsNone Stop = Unit {0}
+BringsNone event = Unit {0}
 
 -- the requests that the events bring for the stream, in the order of their arrival
 pub data Asks : List Event → List Asked → Type 0 where
@@ -30,10 +28,7 @@ pub data Asks : List Event → List Asked → Type 0 where
 -- the out of an event that is a poll, where it gave one
 abbrev pub reply_in : Event → Option Out → List Out
 reply_in (Poll stream) (Some out) = out ∷ []
-reply_in (Poll stream) None = []
-reply_in (Opened conn) out = []
-reply_in (Text conn text) out = []
-reply_in Stop out = []
+reply_in event out = []
 
 -- the replies of the stream: what its polls gave, in order
 abbrev pub replies : List Event → List (Option Out) → List Out

@@ -8,7 +8,7 @@ use Rattle.engine_core.specs.declared.statement.BoundStmt.{BoundStmt}
 use Rattle.sql_text.specs.declared.class.Class.{Class}
 use Rattle.sql_text.specs.declared.class.Class.TheVariants as class
 use Rattle.engine_core.specs.declared.entries.Entry.{Entry}
-use Rattle.engine_core.specs.declared.entries.Entry.TheVariants.{Alone, Began, Ran, Denied, Ended, Failed}
+use Rattle.engine_core.specs.declared.entries.Entry.TheVariants.{Alone, Failed}
 use Rattle.engine_core.specs.declared.entries.Answer.{Answer}
 use Rattle.engine_core.specs.declared.entries.Answer.TheVariants.{Gave, Refused}
 use Rattle.engine_core.specs.declared.entries.Broken.{Broken}
@@ -21,26 +21,19 @@ use Rattle.hrana_serve.specs.declared.replies.Out.{Out}
 -- a statement has written where its class is `Write` and it wasn't refused
 abbrev pub wrote_of : Class → Answer → Bool
 wrote_of class.Write (Gave given) = true
-wrote_of class.Write (Refused code) = false
 wrote_of c answer = false
 
 -- the entry of a statement that was run alone on stream 1, or whose engine broke
 abbrev pub IsEntryFor : BoundStmt → Entry → Type 0
 IsEntryFor bound (Alone stream stmt answer wrote) = (stream.0 ≡ 1) × (stmt ≡ bound) × (wrote ≡ wrote_of stmt.class answer)
 IsEntryFor bound (Failed stream unit cause) = (stream.0 ≡ 1) × (unit ≡ None)
-IsEntryFor bound (Began unit stream) = ⊥
-IsEntryFor bound (Ran unit stmt answer) = ⊥
-IsEntryFor bound (Denied unit deny) = ⊥
-IsEntryFor bound (Ended unit how) = ⊥
+IsEntryFor bound entry = ⊥
 
 -- The entry that the poll of a statement may add: it ran alone on stream 1, or its engine broke.
 abbrev pub IsEntryOf : Ready → Entry → Type 0
 IsEntryOf ready (Alone stream stmt answer wrote) = (stream.0 ≡ 1) × IsReady ready stmt × (wrote ≡ wrote_of stmt.class answer)
 IsEntryOf ready (Failed stream unit cause) = (stream.0 ≡ 1) × (unit ≡ None)
-IsEntryOf ready (Began unit stream) = ⊥
-IsEntryOf ready (Ran unit stmt answer) = ⊥
-IsEntryOf ready (Denied unit deny) = ⊥
-IsEntryOf ready (Ended unit how) = ⊥
+IsEntryOf ready entry = ⊥
 
 -- the result that is sent: its rows are dropped where they aren't wanted
 abbrev pub shown : Bool → StmtResult → StmtResult
@@ -59,10 +52,7 @@ broken_data id broken.NoMemory = failed_data id NoMemory
 abbrev pub reply_data : ℤ → Bool → Entry → Data
 reply_data id wanted (Alone stream stmt answer wrote) = answer_data id wanted answer
 reply_data id wanted (Failed stream unit cause) = broken_data id cause
-reply_data id wanted (Began unit stream) = null
-reply_data id wanted (Ran unit stmt answer) = null
-reply_data id wanted (Denied unit deny) = null
-reply_data id wanted (Ended unit how) = null
+reply_data id wanted entry = null
 
 abbrev pub reply_of : Asked → Entry → Out
 reply_of asked entry = message_of (reply_data asked.request_id asked.want_rows entry)

@@ -75,9 +75,7 @@ StopsAs status.Done lines all s = lines ≡ all
 StopsAs (status.BadScript number) lines all s = StopsAt lines all s number
 StopsAs status.WriteFault lines all s = Unit {0}
 StopsAs status.NoMemory lines all s = Unit {0}
-StopsAs status.BadWords lines all s = lines ≡ []
-StopsAs status.ReadFault lines all s = lines ≡ []
-StopsAs status.InputTooLong lines all s = lines ≡ []
+StopsAs end lines all s = lines ≡ []
 
 -- What was written is a front of what the outs are printed as, and lacks at most a part of the last of them.
 pub record PrintsFront (held holds : Option (List ℕ)) (outs : List (Option Out)) : Type 0 where
@@ -95,9 +93,7 @@ WritesAs status.Done outs held holds = Appends held holds (print outs)
 WritesAs (status.BadScript number) outs held holds = Appends held holds (print outs)
 WritesAs status.WriteFault outs held holds = PrintsFront held holds outs
 WritesAs status.NoMemory outs held holds = PrintsFront held holds outs
-WritesAs status.BadWords outs held holds = Keeps held holds
-WritesAs status.ReadFault outs held holds = Keeps held holds
-WritesAs status.InputTooLong outs held holds = Keeps held holds
+WritesAs end outs held holds = Keeps held holds
 
 -- The lines were played as far as the status says: the events are of some of the first lines, and so much was written
 -- of what they gave.
@@ -118,9 +114,7 @@ IsLinesStatus status.Done = Unit {0}
 IsLinesStatus (status.BadScript number) = Unit {0}
 IsLinesStatus status.WriteFault = Unit {0}
 IsLinesStatus status.NoMemory = Unit {0}
-IsLinesStatus status.BadWords = ⊥
-IsLinesStatus status.ReadFault = ⊥
-IsLinesStatus status.InputTooLong = ⊥
+IsLinesStatus end = ⊥
 
 -- The lines were run as far as the status says, and the run then stopped.
 pub record Replayed (all : List (List ℕ)) (end : Status) (count : ℕ) (held holds : Option (List ℕ)) (J : List Entry) : Type 0 where

@@ -26,5 +26,4 @@ pub record IsLineOf (line : List ℕ) (event : Event) : Type 0 where
 abbrev pub IsOfOne : Event → Type 0
 IsOfOne (Opened conn) = conn ≡ 1
 IsOfOne (Text conn text) = conn ≡ 1
-IsOfOne (Poll stream) = Unit {0}
-IsOfOne Stop = Unit {0}
+IsOfOne event = Unit {0}

@@ -4,7 +4,7 @@ use Rattle.serial_order.specs.Serial.{Meaning}
 use Rattle.engine_core.specs.Causes.{RoseBy}
 use Rattle.engine_core.specs.Journal.{fault_count}
 use Rattle.engine_core.specs.declared.entries.Entry.{Entry}
-use Rattle.engine_core.specs.declared.entries.Entry.TheVariants.{Alone, Began, Ran, Denied, Ended, Failed}
+use Rattle.engine_core.specs.declared.entries.Entry.TheVariants.{Alone, Failed}
 use Rattle.engine_core.specs.declared.entries.Answer.{Answer}
 use Rattle.engine_core.specs.declared.statement.BoundStmt.{BoundStmt}
 use Rattle.hrana_serve.specs.State.{State}
@@ -17,7 +17,7 @@ use Rattle.hrana_serve.specs.declared.replies.Out.{Out}
 use Rattle.hrana_serve.specs.declared.hub.Stepped.{Stepped}
 use Rattle.hrana_serve.specs.declared.hub.Stepped.TheVariants.{Gave, Refused, Short, Lost}
 use Rattle.hrana_serve.specs.declared.script.Event.{Event}
-use Rattle.hrana_serve.specs.declared.script.Event.TheVariants.{Opened, Text, Poll, Stop}
+use Rattle.hrana_serve.specs.declared.script.Event.TheVariants.{Poll}
 
 -- The entries executed in their order lead from the one database to the other. Where the engine tells, each statement
 -- that ran has the answer of its execution. A failure leaves the database.
@@ -25,10 +25,7 @@ abbrev pub Executes : {D : Type 0} → Bool → Meaning D BoundStmt Answer → D
 Executes told m db [] new = new ≡ db
 Executes told m db (Alone stream stmt answer wrote ∷ journal) new = (IsTrue told → answer ≡ (m.exec db stmt).1) × Executes told m (m.exec db stmt).0 journal new
 Executes told m db (Failed stream unit cause ∷ journal) new = Executes told m db journal new
-Executes told m db (Began unit stream ∷ journal) new = ⊥
-Executes told m db (Ran unit stmt answer ∷ journal) new = ⊥
-Executes told m db (Denied unit deny ∷ journal) new = ⊥
-Executes told m db (Ended unit how ∷ journal) new = ⊥
+Executes told m db (entry ∷ journal) new = ⊥
 
 -- The list of entries grew by some entries. The engine executed them, its faults stand in them, and they have P.
 pub record Adds {D : Type 0} (told : Bool) (m : Meaning D BoundStmt Answer) (db db' : D) (faults faults' : ℕ) (old new : List Entry) (P : List Entry → Type 0) : Type 0 where
@@ -41,9 +38,7 @@ pub record Adds {D : Type 0} (told : Bool) (m : Meaning D BoundStmt Answer) (db 
 -- the places that the event may need in the list of entries
 abbrev pub places_of : Event → ℕ
 places_of (Poll stream) = 1
-places_of (Opened conn) = 0
-places_of (Text conn text) = 0
-places_of Stop = 0
+places_of event = 0
 
 -- an event was run
 pub record RunOf (s : State) (event : Event) (added : List Entry) (new : State) : Type 0 where

@@ -11,8 +11,6 @@ mod message;
 mod replay;
 mod replies;
 mod script;
-#[cfg(test)]
-mod tests;
 mod top;
 
 pub use engine_core::Status;

@@ -69,12 +69,10 @@ pub fn event_of_line(alloc: Global, line: &[u8]) -> Result<Event, LineFail>
     ensures none { IfErr result (λ err. err ≡ LineFail.NoEvent → (event : Event) → IsOfOne event → IsLineOf line.now event → ⊥) }
 {
     if let Some(digits) = after(line, b"! ") {
-        return match number_of(alloc, digits) {
-            Ok(number) => Ok(Event::Poll {
-                stream: StreamNo(number),
-            }),
-            Err(fail) => Err(fail),
-        };
+        let number = number_of(alloc, digits)?;
+        return Ok(Event::Poll {
+            stream: StreamNo(number),
+        });
     }
     if let Some(text) = after(line, b"> 1 ") {
         return match Bytes::new(alloc, text) {

@@ -21,7 +21,7 @@ loop-left-init g c = record {
 pub loop-left-preserved-then-is_empty : goal.loop-left-preserved-then-is_empty
 loop-left-preserved-then-is_empty g c =
     let next : IsNextLine (lines_of c.args.script.now) c.loop-left.at c.next_line.result.0.now (lines_left c.next_line.result.1) =
-        next_of _ _ c.loop-left.left c.in-Some.bytes _ c.next_line.result.1 c.loop-left.invariant.rest c.in-Some.is c.next_line.ensures.lines in
+    next_of _ _ c.loop-left.left c.in-Some.bytes _ c.next_line.result.1 c.loop-left.invariant.rest c.in-Some.is c.next_line.ensures.lines in
     record {
       adds = Adds-weaker _ _ _ _ _ _ _ _ _ _ c.loop-left.invariant.adds
           (λ x p. rw (line_blank next (rw (← c.is_empty.ensures) c.if-is_empty.true)) (playing_blank (g.O.Sink.written c.args.sink.now) _ _ _ _ x p));
@@ -37,7 +37,7 @@ loop-left-preserved-then-is_empty g c =
 pub loop-left-preserved : goal.loop-left-preserved
 loop-left-preserved g c =
     let next : IsNextLine (lines_of c.args.script.now) c.loop-left.at c.next_line.result.0.now (lines_left c.next_line.result.1) =
-        next_of _ _ c.loop-left.left c.in-Some.bytes _ c.next_line.result.1 c.loop-left.invariant.rest c.in-Some.is c.next_line.ensures.lines in
+    next_of _ _ c.loop-left.left c.in-Some.bytes _ c.next_line.result.1 c.loop-left.invariant.rest c.in-Some.is c.next_line.ensures.lines in
     record {
       adds = Adds-then _ _ _ _ _ _ _ _ _ _ _ _ _ _ c.loop-left.invariant.adds c.in-Played.ensures.adds
           (λ x y p q. rw (line_more next) (playing_more (g.O.Sink.written c.args.sink.now) _ _ _ _ _ _ _ x y p q));
@@ -57,21 +57,21 @@ returns-in-Short-clause-adds g c = Adds-then _ _ _ _ _ _ _ _ _ _ _ _ _ _ c.loop-
 pub returns-in-Bad-clause-adds : goal.returns-in-Bad-clause-adds
 returns-in-Bad-clause-adds g c =
     let next : IsNextLine (lines_of c.args.script.now) c.loop-left.at c.next_line.result.0.now (lines_left c.next_line.result.1) =
-        next_of _ _ c.loop-left.left c.in-Some.bytes _ c.next_line.result.1 c.loop-left.invariant.rest c.in-Some.is c.next_line.ensures.lines in
+    next_of _ _ c.loop-left.left c.in-Some.bytes _ c.next_line.result.1 c.loop-left.invariant.rest c.in-Some.is c.next_line.ensures.lines in
     Adds-then _ _ _ _ _ _ _ _ _ _ _ _ _ _ c.loop-left.invariant.adds c.in-Bad.ensures.adds
     (λ x y p q. ends_bad (g.O.Sink.written c.args.sink.now) _ _ _ _ _ _ _ _ _ x y (line_next next) (line_count next) p q.0 q.1)
 
 pub returns-in-Lost-clause-adds : goal.returns-in-Lost-clause-adds
 returns-in-Lost-clause-adds g c =
     let next : IsNextLine (lines_of c.args.script.now) c.loop-left.at c.next_line.result.0.now (lines_left c.next_line.result.1) =
-        next_of _ _ c.loop-left.left c.in-Some.bytes _ c.next_line.result.1 c.loop-left.invariant.rest c.in-Some.is c.next_line.ensures.lines in
+    next_of _ _ c.loop-left.left c.in-Some.bytes _ c.next_line.result.1 c.loop-left.invariant.rest c.in-Some.is c.next_line.ensures.lines in
     Adds-then _ _ _ _ _ _ _ _ _ _ _ _ _ _ c.loop-left.invariant.adds c.in-Lost.ensures.adds
     (λ x y p q. ends_lost (g.O.Sink.written c.args.sink.now) _ _ _ _ _ _ _ _ x y (line_next next) p q)
 
 pub returns-in-WriteFault-clause-adds : goal.returns-in-WriteFault-clause-adds
 returns-in-WriteFault-clause-adds g c =
     let next : IsNextLine (lines_of c.args.script.now) c.loop-left.at c.next_line.result.0.now (lines_left c.next_line.result.1) =
-        next_of _ _ c.loop-left.left c.in-Some.bytes _ c.next_line.result.1 c.loop-left.invariant.rest c.in-Some.is c.next_line.ensures.lines in
+    next_of _ _ c.loop-left.left c.in-Some.bytes _ c.next_line.result.1 c.loop-left.invariant.rest c.in-Some.is c.next_line.ensures.lines in
     Adds-then _ _ _ _ _ _ _ _ _ _ _ _ _ _ c.loop-left.invariant.adds c.in-WriteFault.ensures.adds
     (λ x y p q. ends_fault (g.O.Sink.written c.args.sink.now) _ _ _ _ _ _ _ _ x y (line_next next) p q)
 

@@ -2,8 +2,8 @@ use Rattle.std.proofs.Common.{arith}
 use Rattle.hrana_serve.proofs.ScriptLemmas.{no_event, decimal_one}
 use Rattle.hrana_serve.proofs.script.event_of_line.Goals as goal
 
-pub returns-in-Ok-new-clause-ok : goal.returns-in-Ok-new-clause-ok
-returns-in-Ok-new-clause-ok c = record { written = rw (decimal_one, c.in-Ok-new.ensures) c.in-Some-after.ensures; numbers = omega arith }
+pub returns-in-Ok-clause-ok : goal.returns-in-Ok-clause-ok
+returns-in-Ok-clause-ok c = record { written = rw (decimal_one, c.in-Ok.ensures) c.in-Some-after.ensures; numbers = omega arith }
 
 pub returns-then-is_same-clause-ok : goal.returns-then-is_same-clause-ok
 returns-then-is_same-clause-ok c = record { written = rw decimal_one (c.is_same.ensures.same (search (c.if-is_same.true))); numbers = omega arith }
