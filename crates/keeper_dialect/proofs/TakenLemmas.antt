@@ -3,7 +3,7 @@ use Rattle.std.proofs.Common.{◌≡◌, ℕ, Bool, true, false, List, [], ◌�
 use Rattle.std.specs.Prelude.{◌||◌}
 use Rattle.std.specs.List.{list_any}
 use Rattle.std.proofs.lemmas.List.Folds.{list_any-append}
-use Rattle.keeper_dialect.specs.Lists.{is_same_name}
+use Rattle.keeper_dialect.specs.Tokens.{is_same_name}
 
 module _ {A : Type 0} (name_of : A → List ℕ) where
   -- the names of some parts

@@ -52,25 +52,11 @@ rank_of keyword.Where = 14
 
 abbrev pub is_keyword : Keyword → Symbol → Bool
 is_keyword k (symbol.Keyword j) = rank_of j == rank_of k
-is_keyword k symbol.Word = false
-is_keyword k symbol.QuotedName = false
-is_keyword k symbol.Text = false
-is_keyword k symbol.Number = false
-is_keyword k (symbol.Parameter n) = false
-is_keyword k (symbol.Sign b) = false
-is_keyword k symbol.Stray = false
-is_keyword k symbol.End = false
+is_keyword k _ = false
 
 abbrev pub is_sign : ℕ → Symbol → Bool
-is_sign sign (symbol.Keyword j) = false
-is_sign sign symbol.Word = false
-is_sign sign symbol.QuotedName = false
-is_sign sign symbol.Text = false
-is_sign sign symbol.Number = false
-is_sign sign (symbol.Parameter n) = false
 is_sign sign (symbol.Sign b) = b == sign
-is_sign sign symbol.Stray = false
-is_sign sign symbol.End = false
+is_sign sign _ = false
 
 -- a reserved word
 unfoldable pub keyword_at : Keyword → List Token → Reading Unit
@@ -79,10 +65,6 @@ keyword_at k ts = if is_keyword k (symbol_at ts) then Ok (tt, drop 1 ts) else Er
 -- a sign
 unfoldable pub sign_at : ℕ → List Token → Reading Unit
 sign_at sign ts = if is_sign sign (symbol_at ts) then Ok (tt, drop 1 ts) else Err (place_at ts)
-
--- whether a reserved word stands, which is then passed
-abbrev pub perhaps_keyword : Keyword → List Token → Bool × List Token
-perhaps_keyword k ts = if is_keyword k (symbol_at ts) then (true, drop 1 ts) else (false, ts)
 
 -- what is read of one production after others of a list, where the list goes on
 abbrev pub continued : {A : Type 0} → List A → List Token → Option (Reading A) → (A → List Token → Reading (List A)) → Reading (List A)

@@ -1,28 +1,20 @@
 // The lists of the dialect: columns, names, tuples, settings and what is shown.
 ghost use Rattle.std.specs.Prelude.{◌≡◌, ◌++◌, ◌||◌, ℕ, List, string_bytes, drop, length, OnOk, IfOk, IfErr};
 ghost use Rattle.keeper_dialect.specs.Reading.{symbol_at, StopsAs};
-ghost use Rattle.keeper_dialect.specs.Tokens.{view, views};
-ghost use Rattle.keeper_dialect.specs.Lists.{is_same_name, is_col, has_key, new_name_at, name_list_at, names_at, exprs_at, tuple_at, tuples_at, setting_at, sets_at, source_of_token, source_text, item_at, items_at, after_type, key_at, col_name_at, col_def_at, cols_at, col_defs_at};
+ghost use Rattle.keeper_dialect.specs.Tokens.{is_same_name, view, views};
+ghost use Rattle.keeper_dialect.specs.Lists.{is_col, has_key, new_name_at, name_list_at, names_at, exprs_at, tuple_at, tuples_at, setting_at, sets_at, source_of_token, source_text, item_at, items_at, after_type, key_at, col_name_at, col_def_at, cols_at, col_defs_at};
 ghost use Rattle.keeper_dialect.specs.Taken.{is_taken};
 
+use crate::names::is_same_name;
 use crate::query::{
-    ColDef, ColDefs, ColExpr, ColExprs, DialectFail, Exprs, Item, Items, NameList, Tuples,
+    ColDef, ColDefs, ColExpr, ColExprs, DialectFail, Exprs, Item, Items, MAX_COLUMNS, NameList,
+    Tuples,
 };
 use crate::reader::Reader;
 use crate::taken::Taken;
 use crate::tokens::{Keyword, Symbol, Token};
 use hrana_value::{NoMemory, Txt};
 use std::alloc::Global;
-
-/// The most columns of a table.
-const MOST_COLS: usize = 64;
-
-/// Names compare without regard to ASCII case.
-fn is_same_name(name: &str, other: &str) -> bool
-    ensures { result ≡ is_same_name name.now other.now }
-{
-    name.eq_ignore_ascii_case(other)
-}
 
 fn is_col(cols: &[ColDef], name: &str) -> bool
     ensures { result ≡ is_col cols.now name.now }
@@ -229,14 +221,14 @@ impl<'a> Reader<'a> {
         Ok(true)
     }
 
-    /// The name of a column, of which there are at most 64, no two the same.
+    /// The name of a column, of which a table has at most `MAX_COLUMNS`, no two the same.
     #[tactic(auto, unfolding(crate::specs::Lists::col_name_at, crate::specs::Lists::new_name_at, crate::specs::Reading::and_then))]
     fn col_name(&mut self, alloc: Global, cols: &[ColDef]) -> Result<Txt, DialectFail>
         ensures read { IfOk result (λ x. col_name_at cols.now self.old ≡ Ok (x, self.new)) }
         ensures stops { IfErr result (StopsAs (col_name_at cols.now self.old)) }
     {
         let stop = self.stop();
-        if cols.len() >= MOST_COLS {
+        if cols.len() >= MAX_COLUMNS {
             return Err(stop);
         }
         let name = self.name(alloc)?;

@@ -4,13 +4,24 @@ ghost use Rattle.std.specs.Prelude.{◌≡◌, [], ◌∷◌, ◌++◌, OnOk, On
 use hrana_value::{Bytes, NoMemory, Txt};
 use std::alloc::Global;
 use std::marker::Model;
+use thiserror::Error;
+
+/// The most columns of a table.
+pub const MAX_COLUMNS: usize = 64;
+
+/// The limits by their numbers.
+pub fn limits_are()
+    ensures { MAX_COLUMNS ≡ 64 }
+{}
 
 /// Why a text is no query.
-#[derive(Clone, Copy, Debug, PartialEq, Eq)]
+#[derive(Clone, Copy, Debug, PartialEq, Eq, Error)]
 pub enum DialectFail {
     /// The byte where the first piece starts that can't follow those before it, or the length of the text where more
     /// is needed.
+    #[error("the text is no query: it stops at byte {at}")]
     Syntax { at: usize },
+    #[error("memory ran out")]
     NoMemory,
 }
 
