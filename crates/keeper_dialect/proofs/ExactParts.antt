@@ -2,7 +2,7 @@
 use Rattle.std.proofs.Common.{◌≡◌, ◌-◌, ℕ, Bool, true, false, cond, List, [], ◌∷◌, ◌++◌, length, take, drop, Ok, Err, refl, sym, ap, ◌∙◌, subst, arith}
 use Rattle.std.specs.Prelude.{◌&&◌, not, nat_lt}
 use Rattle.std.proofs.lemmas.List.{length-append}
-use Rattle.keeper_dialect.specs.declared.query.TheConstants.{MAX_COLUMNS}
+use Rattle.keeper_dialect.specs.declared.limits.TheConstants.{MAX_COLUMNS}
 use Rattle.keeper_dialect.specs.declared.tokens.Keyword.{Keyword}
 use Rattle.keeper_dialect.specs.declared.tokens.Keyword.TheVariants as keyword
 use Rattle.keeper_dialect.specs.declared.tokens.Symbol.{Symbol}
@@ -112,12 +112,9 @@ pub exact_items : Exact (Separated (λ done. IsItem)) closes_list items_at
 unfolding items_at
 exact_items = exact_separated (λ done. IsItem) (λ done. item_at) (record { each = λ done. exact_item; within = λ done ts. item_within ts (length ts) (omega arith) })
 
--- what may follow a name of a type, and a mark of a key
+-- what may follow a name of a type
 no_word : Symbol → Bool
 no_word s = not (is_plain_word s)
-
-no_primary : Symbol → Bool
-no_primary s = not (is_keyword keyword.Primary s)
 
 closes_word : (s : Symbol) → closes s ≡ true → is_plain_word s ≡ false
 closes_word (symbol.Keyword k) is = refl

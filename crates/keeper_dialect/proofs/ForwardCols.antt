@@ -1,7 +1,7 @@
 -- The columns of a table go forward, up to one column too many.
 use Rattle.std.proofs.Common.{◌≡◌, ℕ, Bool, true, false, cond, List, [], ◌∷◌, ◌++◌, length, drop, Ok, Err, refl, sym, ap, ◌∙◌, subst, append_assoc, append-nil, arith}
 use Rattle.std.specs.Prelude.{not, nat_lt}
-use Rattle.keeper_dialect.specs.declared.query.TheConstants.{MAX_COLUMNS}
+use Rattle.keeper_dialect.specs.declared.limits.TheConstants.{MAX_COLUMNS}
 use Rattle.keeper_dialect.specs.declared.tokens.Keyword.TheVariants as keyword
 use Rattle.keeper_dialect.specs.declared.query.ColDef.{ColDef}
 use Rattle.keeper_dialect.specs.Tokens.{Token}

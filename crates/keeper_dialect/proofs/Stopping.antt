@@ -2,7 +2,7 @@
 use Rattle.std.proofs.Common.{◌≡◌, ◌+◌, ℕ, Bool, true, false, cond, List, [], ◌∷◌, ◌++◌, length, Some, None, Ok, Err, refl, sym, ap, ◌∙◌, subst, append_assoc, append-nil, arith}
 use Rattle.std.proofs.lemmas.List.{length-append}
 use Rattle.std.specs.Prelude.{nat_lt}
-use Rattle.keeper_dialect.specs.declared.query.TheConstants.{MAX_COLUMNS}
+use Rattle.keeper_dialect.specs.declared.limits.TheConstants.{MAX_COLUMNS}
 use Rattle.keeper_dialect.specs.declared.tokens.Keyword.TheVariants as keyword
 use Rattle.keeper_dialect.specs.declared.tokens.Symbol.TheVariants as symbol
 use Rattle.keeper_dialect.specs.declared.query.ColDef.{ColDef}

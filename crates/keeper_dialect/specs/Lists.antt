@@ -4,13 +4,13 @@ use Rattle.std.specs.List.{list_any}
 use Rattle.keeper_dialect.specs.declared.tokens.Keyword.TheVariants as keyword
 use Rattle.keeper_dialect.specs.declared.tokens.Symbol.{Symbol}
 use Rattle.keeper_dialect.specs.declared.tokens.Symbol.TheVariants as symbol
-use Rattle.keeper_dialect.specs.declared.query.TheConstants.{MAX_COLUMNS}
+use Rattle.keeper_dialect.specs.declared.limits.TheConstants.{MAX_COLUMNS}
 use Rattle.keeper_dialect.specs.declared.query.Expr.{Expr}
 use Rattle.keeper_dialect.specs.declared.query.ColDef.{ColDef}
 use Rattle.keeper_dialect.specs.declared.query.ColExpr.{ColExpr}
 use Rattle.keeper_dialect.specs.declared.query.Item.{Item}
 use Rattle.keeper_dialect.specs.Tokens.{Token, is_same_name}
-use Rattle.keeper_dialect.specs.Reading.{Reading, and_then, symbol_at, place_at, is_keyword, keyword_at, sign_at, separated}
+use Rattle.keeper_dialect.specs.Reading.{Reading, and_then, symbol_at, place_at, is_keyword, keyword_at, sign_at, separated, bracketed_at}
 use Rattle.keeper_dialect.specs.Terms.{name_at, expr_at}
 
 abbrev pub is_among : List (List ℕ) → List ℕ → Bool
@@ -26,20 +26,14 @@ name_list_at ts = separated (λ done. new_name_at (is_among done)) ts
 
 -- names in brackets, no two the same
 unfoldable pub names_at : List Token → Reading (List (List ℕ))
-names_at ts =
-    and_then (sign_at 40 ts) (λ _ inner.
-    and_then (name_list_at inner) (λ names after.
-    and_then (sign_at 41 after) (λ _ rest. Ok (names, rest))))
+names_at ts = bracketed_at name_list_at ts
 
 unfoldable pub exprs_at : List Token → Reading (List Expr)
 exprs_at ts = separated (λ done. expr_at) ts
 
 -- expressions in brackets
 unfoldable pub tuple_at : List Token → Reading (List Expr)
-tuple_at ts =
-    and_then (sign_at 40 ts) (λ _ inner.
-    and_then (exprs_at inner) (λ exprs after.
-    and_then (sign_at 41 after) (λ _ rest. Ok (exprs, rest))))
+tuple_at ts = bracketed_at exprs_at ts
 
 unfoldable pub tuples_at : List Token → Reading (List (List Expr))
 tuples_at ts = separated (λ done. tuple_at) ts
@@ -115,7 +109,4 @@ cols_at ts = separated col_def_at ts
 
 -- columns in brackets
 unfoldable pub col_defs_at : List Token → Reading (List ColDef)
-col_defs_at ts =
-    and_then (sign_at 40 ts) (λ _ inner.
-    and_then (cols_at inner) (λ cols after.
-    and_then (sign_at 41 after) (λ _ rest. Ok (cols, rest))))
+col_defs_at ts = bracketed_at cols_at ts

@@ -1,5 +1,5 @@
 -- Readings: what the front of some tokens is, and what follows it, or where the token starts that can't follow.
-use Rattle.std.specs.Prelude.{◌==◌, ◌≡◌, ℕ, zero, suc, Bool, true, false, List, [], ◌∷◌, ◌++◌, drop, length, Option, Some, None, Result, Ok, Err, if◌then◌else◌}
+use Rattle.std.specs.Prelude.{◌==◌, ◌≡◌, ◌≤◌, ℕ, zero, suc, Bool, true, false, List, [], ◌∷◌, ◌++◌, drop, length, Option, Some, None, Result, Ok, Err, if◌then◌else◌}
 use Rattle.keeper_dialect.specs.declared.tokens.Keyword.{Keyword}
 use Rattle.keeper_dialect.specs.declared.tokens.Keyword.TheVariants as keyword
 use Rattle.keeper_dialect.specs.declared.tokens.Symbol.{Symbol}
@@ -85,6 +85,22 @@ behind_comma read done ts = if is_sign 44 (symbol_at ts) then Some (read done (d
 -- One, and more behind commas. Each may depend on those before it.
 unfoldable pub separated : {A : Type 0} → (List A → List Token → Reading A) → List Token → Reading (List A)
 separated read ts = and_then (read [] ts) (λ x rest. repeated (behind_comma read) (length rest) (x ∷ []) rest)
+
+-- The same with what comes before it: those that are read, behind which the next one has to be.
+abbrev pub separated_behind : {A : Type 0} → (List A → List Token → Reading A) → List A → List Token → Reading (List A)
+separated_behind read done ts = and_then (read done ts) (λ x rest. repeated (behind_comma read) (length rest) (done ++ x ∷ []) rest)
+
+-- what stands in brackets
+abbrev pub bracketed_at : {A : Type 0} → (List Token → Reading A) → List Token → Reading A
+bracketed_at read ts =
+    and_then (sign_at 40 ts) (λ _ inner.
+    and_then (read inner) (λ x after.
+    and_then (sign_at 41 after) (λ _ rest. Ok (x, rest))))
+
+-- parts of a list leave no more tokens than there were, and none takes a name before the first
+pub record Shrinks {A : Type 0} (read : List A → List Token → Reading A) (is_taken_by : List A → List ℕ → Bool) : Type 0 where
+  pub less : (done : List A) (ts : List Token) (x : A) (rest : List Token) → read done ts ≡ Ok (x, rest) → length rest ≤ length ts
+  pub free : (name : List ℕ) → is_taken_by [] name ≡ false
 
 -- an answer is what is read, unless memory ran out
 abbrev pub StopsAs : {A : Type 0} → Reading A → DialectFail → Type 0

@@ -1,6 +1,6 @@
 -- The place where a text stops, by the grammar.
 use Rattle.std.specs.Prelude.{◌≡◌, ℕ, nat_lt, true, List, [], ◌∷◌, ◌++◌, length}
-use Rattle.keeper_dialect.specs.declared.query.TheConstants.{MAX_COLUMNS}
+use Rattle.keeper_dialect.specs.declared.limits.TheConstants.{MAX_COLUMNS}
 use Rattle.keeper_dialect.specs.declared.tokens.Keyword.TheVariants as keyword
 use Rattle.keeper_dialect.specs.declared.query.DialectFail.{DialectFail}
 use Rattle.keeper_dialect.specs.declared.query.DialectFail.TheVariants as fail

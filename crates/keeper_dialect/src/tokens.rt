@@ -11,7 +11,7 @@ use sql_text::{Kind, Parameters, PlacedPiece, next_parameter, piece_at};
 use std::alloc::Global;
 
 /// The words that are reserved.
-#[derive(Clone, Copy, Debug, PartialEq, Eq)]
+#[derive(Clone, Copy)]
 pub(crate) enum Keyword {
     Count,
     Create,
@@ -55,7 +55,7 @@ impl Keyword {
 }
 
 /// What a token is.
-#[derive(Clone, Copy, Debug, PartialEq, Eq)]
+#[derive(Clone, Copy)]
 pub(crate) enum Symbol {
     Keyword(Keyword),
     /// A word that isn't reserved.
@@ -75,7 +75,7 @@ pub(crate) enum Symbol {
 }
 
 /// A piece that is neither blank nor comment, with the blanks and comments before it.
-#[derive(Clone, Copy, Debug)]
+#[derive(Clone, Copy)]
 pub(crate) struct Token<'a> {
     pub(crate) symbol: Symbol,
     pub(crate) before: &'a str,
