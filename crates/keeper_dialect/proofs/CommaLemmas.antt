@@ -1,33 +1,42 @@
--- Lists behind commas, as the loops read them.
-use Rattle.std.proofs.Common.{◌≡◌, ◌<◌, true, false, List, [], ◌∷◌, ◌++◌, length, drop, Some, Ok, sym, ap, ◌∙◌, subst}
+-- Lists behind commas, as the loop reads them.
+use Rattle.std.proofs.Common.{◌≡◌, ◌<◌, ℕ, Bool, true, false, List, [], ◌∷◌, ◌++◌, length, drop, Some, Ok, Err, refl, sym, ap, ◌∙◌, subst, arith}
+use Rattle.std.proofs.lemmas.List.{length-drop}
 use Rattle.keeper_dialect.specs.declared.query.DialectFail.{DialectFail}
 use Rattle.keeper_dialect.specs.Tokens.{Token}
-use Rattle.keeper_dialect.specs.Reading.{Reading, repeated, behind_comma, separated, symbol_at, is_sign, StopsAs}
-use Rattle.keeper_dialect.proofs.ReadingLemmas.{Within, stops_repeated, goes_repeated, ends_repeated, comma_goes, comma_ends, separated-first, separated-stops}
+use Rattle.keeper_dialect.specs.Reading.{Reading, and_then, repeated, behind_comma, separated, separated_behind, symbol_at, is_sign, Shrinks, StopsAs}
+use Rattle.keeper_dialect.proofs.ReadingLemmas.{then_ok, then_err, stops_then, repeated-goes, repeated-stops, repeated-fails, comma_goes, comma_ends}
 use Rattle.keeper_dialect.proofs.Shorter.{commas_go_on}
 
--- each part leaves no more tokens than there were
-pub record Shrinks {A : Type 0} (read : List A → List Token → Reading A) : Type 0 where
-  pub within : (done : List A) (ts : List Token) → Within (length ts) (read done ts)
-
 module _ {A : Type 0} (read : List A → List Token → Reading A) where
-  pub first_stops : (done : List A) (ts : List Token) (e : DialectFail) → done ≡ [] → StopsAs (read done ts) e → StopsAs (separated read ts) e
-  first_stops done ts e none stops = separated-stops read ts e (subst (λ xs. StopsAs (read xs ts) e) none stops)
+  -- before the first part
+  pub list_begins : (done : List A) (ts : List Token) → done ≡ [] → separated_behind read done ts ≡ separated read ts
+  unfolding separated
+  list_begins done ts none = ap (λ xs. separated_behind read xs ts) none
 
-  pub first_reads : (done pushed : List A) (ts : List Token) (x : A) (rest : List Token) → done ≡ [] → read done ts ≡ Ok (x, rest) → pushed ≡ done ++ x ∷ [] → repeated (behind_comma read) (length rest) pushed rest ≡ separated read ts
-  first_reads done pushed ts x rest none is more = ap (λ xs. repeated (behind_comma read) (length rest) xs rest) (more ∙ ap (λ xs. xs ++ x ∷ []) none) ∙ separated-first read ts x rest (ap (λ xs. read xs ts) (sym none) ∙ is)
+  pub next_stops : (done : List A) (ts : List Token) (e : DialectFail) (whole : Reading (List A)) → separated_behind read done ts ≡ whole → StopsAs (read done ts) e → StopsAs whole e
+  next_stops done ts e whole same stops = subst (λ r. StopsAs r e) same (stops_then (read done ts) _ e stops)
 
-  pub next_stops : Shrinks read → (done : List A) (ts us : List Token) (e : DialectFail) (whole : Reading (List A)) → repeated (behind_comma read) (length ts) done ts ≡ whole → true ≡ is_sign 44 (symbol_at ts) → us ≡ drop 1 ts → StopsAs (read done us) e → StopsAs whole e
-  next_stops shrinks done ts us e whole same comma left stops = stops_repeated (behind_comma read) (commas_go_on read shrinks.within) done ts (read done (drop 1 ts)) e whole same (comma_goes read done ts (sym comma)) (subst (λ vs. StopsAs (read done vs) e) left stops)
+  -- behind a part
+  read_one : (done : List A) (ts : List Token) (x : A) (rest : List Token) → read done ts ≡ Ok (x, rest) → separated_behind read done ts ≡ repeated (behind_comma read) (length rest) (done ++ x ∷ []) rest
+  read_one done ts x rest is = then_ok (read done ts) _ x rest is
 
-  pub next_found : (done : List A) (ts us : List Token) (x : A) (rest : List Token) → true ≡ is_sign 44 (symbol_at ts) → us ≡ drop 1 ts → read done us ≡ Ok (x, rest) → behind_comma read done ts ≡ Some (Ok (x, rest))
-  next_found done ts us x rest comma left is = comma_goes read done ts (sym comma) ∙ ap (λ r. Some r) (ap (read done) (sym left) ∙ is)
+  comma_step : {taken : List A → List ℕ → Bool} → Shrinks read taken → (done : List A) (ts : List Token) (r : Reading A) → is_sign 44 (symbol_at ts) ≡ true → read done (drop 1 ts) ≡ r → repeated (behind_comma read) (length ts) done ts ≡ separated_behind read done (drop 1 ts)
+  comma_step shrinks done ts (Ok part) comma is =
+      repeated-goes (behind_comma read) (commas_go_on read (λ done ts. record { few = shrinks.less done ts })) done ts part.0 part.1 (comma_goes read done ts comma ∙ ap (λ r. Some r) is) ∙ sym (read_one done (drop 1 ts) part.0 part.1 is)
+  comma_step shrinks done ts (Err at) comma is =
+      repeated-fails (behind_comma read) (commas_go_on read (λ done ts. record { few = shrinks.less done ts })) done ts at (comma_goes read done ts comma ∙ ap (λ r. Some r) is) ∙ sym (then_err (read done (drop 1 ts)) _ at is)
 
-  pub next_shorter : Shrinks read → (done : List A) (ts : List Token) (x : A) (rest : List Token) → behind_comma read done ts ≡ Some (Ok (x, rest)) → length rest < length ts
-  next_shorter shrinks done ts x rest found = (commas_go_on read shrinks.within).shortens done ts x rest found
+  pub list_goes : {taken : List A → List ℕ → Bool} → Shrinks read taken → (done pushed : List A) (ts : List Token) (x : A) (rest us : List Token) (whole : Reading (List A)) → separated_behind read done ts ≡ whole → read done ts ≡ Ok (x, rest) → true ≡ is_sign 44 (symbol_at rest) → us ≡ drop 1 rest → pushed ≡ done ++ x ∷ [] → separated_behind read pushed us ≡ whole
+  list_goes shrinks done pushed ts x rest us whole same is comma left more =
+      (λ i. separated_behind read (more i) (left i)) ∙ sym (comma_step shrinks (done ++ x ∷ []) rest _ (sym comma) refl) ∙ sym (read_one done ts x rest is) ∙ same
 
-  pub next_reads : Shrinks read → (done pushed : List A) (ts : List Token) (x : A) (rest : List Token) (whole : Reading (List A)) → repeated (behind_comma read) (length ts) done ts ≡ whole → behind_comma read done ts ≡ Some (Ok (x, rest)) → pushed ≡ done ++ x ∷ [] → repeated (behind_comma read) (length rest) pushed rest ≡ whole
-  next_reads shrinks done pushed ts x rest whole same found more = goes_repeated (behind_comma read) (commas_go_on read shrinks.within) done pushed ts x rest whole same found more
+  some_left : (ts : List Token) → true ≡ is_sign 44 (symbol_at ts) → length (drop 1 ts) < length ts
+  some_left [] comma = cc comma
+  some_left (t ∷ ts) comma = omega (arith, length-drop 1 (t ∷ ts))
 
-  pub list_ends : (done : List A) (ts rest : List Token) (whole : Reading (List A)) → repeated (behind_comma read) (length ts) done ts ≡ whole → false ≡ is_sign 44 (symbol_at ts) → rest ≡ ts → whole ≡ Ok (done, rest)
-  list_ends done ts rest whole same comma left = ends_repeated (behind_comma read) done ts rest whole same (comma_ends read done ts (sym comma)) left
+  pub list_shorter : {taken : List A → List ℕ → Bool} → Shrinks read taken → (done : List A) (ts : List Token) (x : A) (rest us : List Token) → read done ts ≡ Ok (x, rest) → true ≡ is_sign 44 (symbol_at rest) → us ≡ drop 1 rest → length us < length ts
+  list_shorter shrinks done ts x rest us is comma left = omega (arith, shrinks.less done ts x rest is, some_left rest comma, ap length left)
+
+  pub list_ends : (done pushed : List A) (ts : List Token) (x : A) (rest left : List Token) (whole : Reading (List A)) → separated_behind read done ts ≡ whole → read done ts ≡ Ok (x, rest) → false ≡ is_sign 44 (symbol_at rest) → left ≡ rest → pushed ≡ done ++ x ∷ [] → whole ≡ Ok (pushed, left)
+  list_ends done pushed ts x rest left whole same is comma stays more =
+      sym same ∙ read_one done ts x rest is ∙ repeated-stops (behind_comma read) (length rest) (done ++ x ∷ []) rest (comma_ends read (done ++ x ∷ []) rest (sym comma)) ∙ (λ i. Ok (sym more i, sym stays i))

@@ -2,6 +2,7 @@
 use Rattle.std.proofs.Common.{◌≡◌, ◌-◌, ℕ, Bool, true, false, cond, List, [], ◌∷◌, ◌++◌, length, take, drop, Ok, Err, refl, sym, ap, ◌∙◌, subst, arith}
 use Rattle.std.specs.Prelude.{◌&&◌, not, nat_lt}
 use Rattle.std.proofs.lemmas.List.{length-append}
+use Rattle.keeper_dialect.specs.declared.limits.TheConstants.{MAX_COLUMNS}
 use Rattle.keeper_dialect.specs.declared.tokens.Keyword.{Keyword}
 use Rattle.keeper_dialect.specs.declared.tokens.Keyword.TheVariants as keyword
 use Rattle.keeper_dialect.specs.declared.tokens.Symbol.{Symbol}
@@ -13,7 +14,7 @@ use Rattle.keeper_dialect.specs.declared.query.Item.{Item}
 use Rattle.keeper_dialect.specs.Tokens.{Token}
 use Rattle.keeper_dialect.specs.Reading.{Reading, and_then, symbol_at, place_at, is_keyword, is_sign, keyword_at, sign_at}
 use Rattle.keeper_dialect.specs.Terms.{expr_at, name_at, col_expr_at}
-use Rattle.keeper_dialect.specs.Lists.{is_among, is_set, is_col, has_key, new_name_at, name_list_at, names_at, exprs_at, tuple_at, tuples_at, setting_at, set_at, sets_at, source_text, front, item_at, items_at, is_plain_word, after_type, key_at, col_name_at, col_def_at, cols_at, col_defs_at, most_cols}
+use Rattle.keeper_dialect.specs.Lists.{is_among, is_set, is_col, has_key, new_name_at, name_list_at, names_at, exprs_at, tuple_at, tuples_at, setting_at, set_at, sets_at, source_text, front, item_at, items_at, is_plain_word, after_type, key_at, col_name_at, col_def_at, cols_at, col_defs_at}
 use Rattle.keeper_dialect.specs.Grammar.{Is, here, Then, both, Either, first, second, Single, one, standing, Keyed, Signed, Name, IsExpr, Unless, unless, Separated, Bracketed, NewName, Equation, IsItem, item, Nothing, TypeName, KeyMark, IsColDef, Names, Tuple}
 use Rattle.keeper_dialect.proofs.ReadingLemmas.{then_ok, same_rest}
 use Rattle.keeper_dialect.proofs.Shorter.{expr_within, new_name_within, tuple_within, set_within, item_within, col_def_within}
@@ -111,12 +112,9 @@ pub exact_items : Exact (Separated (λ done. IsItem)) closes_list items_at
 unfolding items_at
 exact_items = exact_separated (λ done. IsItem) (λ done. item_at) (record { each = λ done. exact_item; within = λ done ts. item_within ts (length ts) (omega arith) })
 
--- what may follow a name of a type, and a mark of a key
+-- what may follow a name of a type
 no_word : Symbol → Bool
 no_word s = not (is_plain_word s)
-
-no_primary : Symbol → Bool
-no_primary s = not (is_keyword keyword.Primary s)
 
 closes_word : (s : Symbol) → closes s ≡ true → is_plain_word s ≡ false
 closes_word (symbol.Keyword k) is = refl
@@ -237,13 +235,13 @@ exact_key true = record { sound = λ ts x rest is. sound (is_keyword keyword.Pri
     complete x us rest (unless y vs (first z ws (both u w os ps p (both v k qs rs q here))) wrong) follows = cc wrong
 
 abbrev pub ColName : List ColDef → List ℕ → List Token → Type 0
-ColName done = Unless (λ name. not (nat_lt (length done) most_cols)) (NewName (is_col done))
+ColName done = Unless (λ name. not (nat_lt (length done) MAX_COLUMNS)) (NewName (is_col done))
 
 exact_col_name : (done : List ColDef) → Exact (ColName done) any (col_name_at done)
 unfolding col_name_at
-exact_col_name done = record { sound = λ ts x rest is. sound (nat_lt (length done) most_cols) ts x rest refl is; complete = complete }
+exact_col_name done = record { sound = λ ts x rest is. sound (nat_lt (length done) MAX_COLUMNS) ts x rest refl is; complete = complete }
   where
-    sound : (b : Bool) (ts : List Token) (x : List ℕ) (rest : List Token) → nat_lt (length done) most_cols ≡ b → cond b (new_name_at (is_col done) ts) (Err (place_at ts)) ≡ Ok (x, rest) → Front (ColName done) x ts rest
+    sound : (b : Bool) (ts : List Token) (x : List ℕ) (rest : List Token) → nat_lt (length done) MAX_COLUMNS ≡ b → cond b (new_name_at (is_col done) ts) (Err (place_at ts)) ≡ Ok (x, rest) → Front (ColName done) x ts rest
     sound true ts x rest few is = let f = (exact_new_name (is_col done)).sound ts x rest is in record { front = f.front; is = unless x f.front f.is (ap not few); whole = f.whole }
     sound false ts x rest few is = cc is
 
@@ -251,8 +249,8 @@ exact_col_name done = record { sound = λ ts x rest is. sound (nat_lt (length do
     few_of true right = refl
     few_of false wrong = cc wrong
 
-    complete : (x : List ℕ) (us rest : List Token) → ColName done x us → true ≡ true → cond (nat_lt (length done) most_cols) (new_name_at (is_col done) (us ++ rest)) (Err (place_at (us ++ rest))) ≡ Ok (x, rest)
-    complete x us rest (unless y vs p few) follows = ap (λ b. cond b (new_name_at (is_col done) (vs ++ rest)) (Err (place_at (vs ++ rest)))) (few_of (nat_lt (length done) most_cols) few) ∙ (exact_new_name (is_col done)).complete x vs rest p refl
+    complete : (x : List ℕ) (us rest : List Token) → ColName done x us → true ≡ true → cond (nat_lt (length done) MAX_COLUMNS) (new_name_at (is_col done) (us ++ rest)) (Err (place_at (us ++ rest))) ≡ Ok (x, rest)
+    complete x us rest (unless y vs p few) follows = ap (λ b. cond b (new_name_at (is_col done) (vs ++ rest)) (Err (place_at (vs ++ rest)))) (few_of (nat_lt (length done) MAX_COLUMNS) few) ∙ (exact_new_name (is_col done)).complete x vs rest p refl
 
 unfoldable pub col_rest : List ColDef → List ℕ → List Token → Reading ColDef
 col_rest done name after = and_then (key_at (has_key done) (after_type (symbol_at after) after)) (λ key rest. Ok (record { name = name; key = key }, rest))

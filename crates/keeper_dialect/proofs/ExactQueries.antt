@@ -51,9 +51,6 @@ is_one_of k (symbol.Sign b) is = cc is
 is_one_of k symbol.Stray is = cc is
 is_one_of k symbol.End is = cc is
 
-abbrev Filtered : ColExpr → Option ColExpr → List Token → Type 0
-Filtered filter = Is (Some filter)
-
 abbrev FilterRest : Option ColExpr → List Token → Type 0
 FilterRest = Then (Equation Name) (λ filter. Is (Some filter))
 

@@ -3,7 +3,6 @@ use Rattle.std.proofs.Common.{◌≡◌, ℕ, ℤ, Bool, true, false, cond, eqb-
 use Rattle.std.specs.Prelude.{Result, ◌==◌, ◌&&◌, not}
 use Rattle.std.proofs.lemmas.Bool.{and_parts}
 use Rattle.std.proofs.lemmas.List.{nil_from_length}
-use Rattle.sql_text.specs.Class.{is_word}
 use Rattle.sql_text.specs.Parameters.{digits_value}
 use Rattle.hex.specs.Hex.{decode_of}
 use Rattle.hex.specs.declared.error.FromHexError.{FromHexError}
@@ -13,7 +12,7 @@ use Rattle.keeper_dialect.specs.declared.tokens.Symbol.{Symbol}
 use Rattle.keeper_dialect.specs.declared.tokens.Symbol.TheVariants as symbol
 use Rattle.keeper_dialect.specs.declared.query.Term.{Term}
 use Rattle.keeper_dialect.specs.declared.query.Term.TheVariants as term
-use Rattle.keeper_dialect.specs.Tokens.{Token}
+use Rattle.keeper_dialect.specs.Tokens.{Token, is_same_name}
 use Rattle.keeper_dialect.specs.Reading.{Reading, symbol_at, text_at, before_at, place_at, is_keyword, is_sign, keyword_at, sign_at}
 use Rattle.keeper_dialect.specs.Terms.{one_at, name_of, name_at, signed, number_term, number_of, number_at, is_text, ok_of, digits_behind, blob_or_name, word_term_at, without_quotes, unquoted, other_term_of, other_term_at, unsigned_term_by, term_at}
 use Rattle.keeper_dialect.specs.Grammar.{Keyed, Signed, Name, IsTerm, number, negative, text, blob, null, parameter, name}
@@ -96,7 +95,7 @@ no_digits rest other = by_text (is_text (symbol_at rest)) other
 
 word_at-name : (t : Token) (rest : List Token) → no_text (symbol_at rest) ≡ true → word_term_at (t ∷ rest) ≡ Ok (term.Name t.text, rest)
 unfolding word_term_at
-word_at-name t rest other = by_word (is_word t.text (codes "X"))
+word_at-name t rest other = by_word (is_same_name t.text (codes "X"))
   where
     by_word : (b : Bool) → blob_or_name t.text (cond b (digits_behind rest) None) rest ≡ Ok (term.Name t.text, rest)
     by_word true = ap (λ o. blob_or_name t.text o rest) (no_digits rest other)
@@ -105,7 +104,7 @@ word_at-name t rest other = by_word (is_word t.text (codes "X"))
 digits_are : (t : Token) (rest : List Token) (bytes : List ℕ) → t.symbol ≡ symbol.Text → t.before ≡ [] → decode_of (without_quotes 39 t.text) ≡ Ok bytes → digits_behind (t ∷ rest) ≡ Some bytes
 digits_are t rest bytes is at_once digits = ap (λ s. cond (is_text s && length t.before == 0) (ok_of (decode_of (without_quotes 39 t.text))) None) is ∙ ap (λ bs. cond (length bs == 0) (ok_of (decode_of (without_quotes 39 t.text))) None) at_once ∙ ap ok_of digits
 
-word_at-blob : (x t : Token) (rest : List Token) (bytes : List ℕ) → is_word x.text (codes "X") ≡ true → digits_behind (t ∷ rest) ≡ Some bytes → word_term_at (x ∷ t ∷ rest) ≡ Ok (term.Blob bytes, rest)
+word_at-blob : (x t : Token) (rest : List Token) (bytes : List ℕ) → is_same_name x.text (codes "X") ≡ true → digits_behind (t ∷ rest) ≡ Some bytes → word_term_at (x ∷ t ∷ rest) ≡ Ok (term.Blob bytes, rest)
 unfolding word_term_at
 word_at-blob x t rest bytes word digits = ap (λ b. blob_or_name x.text (cond b (digits_behind (t ∷ rest)) None) (t ∷ rest)) word ∙ ap (λ o. blob_or_name x.text o (t ∷ rest)) digits
 
@@ -192,7 +191,7 @@ decoded : (r : Result (List ℕ) FromHexError) (bytes : List ℕ) → ok_of r �
 decoded (Ok bs) bytes is = let same : bs ≡ bytes = cc is in ap (λ b. Ok b) same
 decoded (Err e) bytes is = cc is
 
-pub blob_front : (w : Token) (ts : List Token) (bytes : List ℕ) → w.symbol ≡ symbol.Word → is_word w.text (codes "X") ≡ true → digits_behind ts ≡ Some bytes → Front IsTerm (term.Blob bytes) (w ∷ ts) (drop 1 ts)
+pub blob_front : (w : Token) (ts : List Token) (bytes : List ℕ) → w.symbol ≡ symbol.Word → is_same_name w.text (codes "X") ≡ true → digits_behind ts ≡ Some bytes → Front IsTerm (term.Blob bytes) (w ∷ ts) (drop 1 ts)
 blob_front w [] bytes is word digits = cc digits
 blob_front w (t ∷ ts) bytes is word digits = by_digits (is_text t.symbol && length t.before == 0) refl digits
   where
@@ -204,9 +203,9 @@ blob_front w (t ∷ ts) bytes is word digits = by_digits (is_text t.symbol && le
 
 word_sound : (w : Token) (ts : List Token) (x : Term) (rest : List Token) → w.symbol ≡ symbol.Word → word_term_at (w ∷ ts) ≡ Ok (x, rest) → Front IsTerm x (w ∷ ts) rest
 unfolding word_term_at
-word_sound w ts x rest is read = word_front w (cond (is_word w.text (codes "X")) (digits_behind ts) None) ts x rest is read (λ bytes digits. by_word (is_word w.text (codes "X")) refl bytes digits)
+word_sound w ts x rest is read = word_front w (cond (is_same_name w.text (codes "X")) (digits_behind ts) None) ts x rest is read (λ bytes digits. by_word (is_same_name w.text (codes "X")) refl bytes digits)
   where
-    by_word : (b : Bool) → is_word w.text (codes "X") ≡ b → (bytes : List ℕ) → cond b (digits_behind ts) None ≡ Some bytes → Front IsTerm (term.Blob bytes) (w ∷ ts) (drop 1 ts)
+    by_word : (b : Bool) → is_same_name w.text (codes "X") ≡ b → (bytes : List ℕ) → cond b (digits_behind ts) None ≡ Some bytes → Front IsTerm (term.Blob bytes) (w ∷ ts) (drop 1 ts)
     by_word true word bytes digits = blob_front w ts bytes is word digits
     by_word false word bytes digits = cc digits
 

@@ -1,11 +1,12 @@
 -- The columns of a table go forward, up to one column too many.
 use Rattle.std.proofs.Common.{◌≡◌, ℕ, Bool, true, false, cond, List, [], ◌∷◌, ◌++◌, length, drop, Ok, Err, refl, sym, ap, ◌∙◌, subst, append_assoc, append-nil, arith}
 use Rattle.std.specs.Prelude.{not, nat_lt}
+use Rattle.keeper_dialect.specs.declared.limits.TheConstants.{MAX_COLUMNS}
 use Rattle.keeper_dialect.specs.declared.tokens.Keyword.TheVariants as keyword
 use Rattle.keeper_dialect.specs.declared.query.ColDef.{ColDef}
 use Rattle.keeper_dialect.specs.Tokens.{Token}
 use Rattle.keeper_dialect.specs.Reading.{Reading, and_then, repeated, behind_comma, separated, symbol_at, place_at, is_keyword, is_sign, keyword_at, sign_at}
-use Rattle.keeper_dialect.specs.Lists.{is_col, has_key, new_name_at, is_plain_word, key_at, col_name_at, col_def_at, cols_at, col_defs_at, most_cols}
+use Rattle.keeper_dialect.specs.Lists.{is_col, has_key, new_name_at, is_plain_word, key_at, col_name_at, col_def_at, cols_at, col_defs_at}
 use Rattle.keeper_dialect.specs.Grammar.{Is, here, Then, both, second, Repeated, none, more, one, standing, Keyed, Signed, unless, Separated, Bracketed, NewName, Nothing, TypeName, KeyMark, IsColDef}
 use Rattle.keeper_dialect.specs.Stops.{FullCols}
 use Rattle.keeper_dialect.proofs.ReadingLemmas.{GoesOn, then_err}
@@ -40,7 +41,7 @@ partly_before {A = A} P Q F at k early late = forward_then P Q (Partly P F) (Par
     early_begins us (partly b) = partly (begun_early P Q (λ x. (late x).able) us b)
     early_begins us (filled f) = filled f
 
-going_col_name : (done : List ColDef) → nat_lt (length done) most_cols ≡ true → Going (ColName done) (col_name_at done)
+going_col_name : (done : List ColDef) → nat_lt (length done) MAX_COLUMNS ≡ true → Going (ColName done) (col_name_at done)
 unfolding col_name_at
 going_col_name done few = going_as (NewName (is_col done)) (ColName done) (new_name_at (is_col done)) (col_name_at done) (going_new_name (is_col done) (fresh_name (λ (col : ColDef). col.name) done)) (λ x us p. unless x us p (ap not few)) (λ ts. ap (λ b. cond b (new_name_at (is_col done) ts) (Err (place_at ts))) few)
 
@@ -75,36 +76,36 @@ going_col_rest done name =
     going_then (KeyMark (has_key done)) (λ key. Is (record { name = name; key = key })) (key_at (has_key done)) (λ key rest. Ok (record { name = name; key = key }, rest)) (going_key (has_key done)) (λ key. going_is (record { name = name; key = key }))))
     (λ x us p. p) (same_typed done name)
 
-going_col_def : (done : List ColDef) → nat_lt (length done) most_cols ≡ true → Going (IsColDef done) (col_def_at done)
+going_col_def : (done : List ColDef) → nat_lt (length done) MAX_COLUMNS ≡ true → Going (IsColDef done) (col_def_at done)
 unfolding col_def_at col_rest
 going_col_def done few = going_then (ColName done) (λ name. Then TypeName (λ _. KeyedCol done name)) (col_name_at done) (col_rest done) (going_col_name done few) (going_col_rest done)
 
 -- one column more is refused where it starts
-pub col_def_at-full : (done : List ColDef) (t : Token) (other : List Token) → nat_lt (length done) most_cols ≡ false → col_def_at done (t ∷ other) ≡ Err t.start
+pub col_def_at-full : (done : List ColDef) (t : Token) (other : List Token) → nat_lt (length done) MAX_COLUMNS ≡ false → col_def_at done (t ∷ other) ≡ Err t.start
 unfolding col_def_at col_name_at
 col_def_at-full done t other full = then_err (col_name_at done (t ∷ other)) _ t.start (ap (λ b. cond b (new_name_at (is_col done) (t ∷ other)) (Err t.start)) full)
 
-full_col_def : (done : List ColDef) → nat_lt (length done) most_cols ≡ false → Forward (IsColDef done) (λ us. us ≡ []) (col_def_at done)
+full_col_def : (done : List ColDef) → nat_lt (length done) MAX_COLUMNS ≡ false → Forward (IsColDef done) (λ us. us ≡ []) (col_def_at done)
 full_col_def done full = record { outcome = λ ts ended. stops_here (IsColDef done) (λ us. us ≡ []) (col_def_at done) ts ended refl (λ t other same. col_def_at-full done t other full) }
 
 -- tokens that columns behind others begin with, or that are all the columns that a table may have, and a comma
 data ColsBegun (done : List ColDef) (us : List Token) : Type 0 where
   open_cols : Begun (Longer (Behind IsColDef) done) us → ColsBegun done us
-  full_cols : (xs : List ColDef) (ws : List Token) (comma : Token) → Repeated (Behind IsColDef) done xs ws → is_sign 44 comma.symbol ≡ true → nat_lt (length (done ++ xs)) most_cols ≡ false → us ≡ ws ++ comma ∷ [] → ColsBegun done us
+  full_cols : (xs : List ColDef) (ws : List Token) (comma : Token) → Repeated (Behind IsColDef) done xs ws → is_sign 44 comma.symbol ≡ true → nat_lt (length (done ++ xs)) MAX_COLUMNS ≡ false → us ≡ ws ++ comma ∷ [] → ColsBegun done us
 
 cols_next : (done : List ColDef) (ts : List Token) → Ended ts → NextOutcome (Behind IsColDef done) (ColsBegun done) (behind_comma col_def_at done) ts
-cols_next done ts ended = by_count (nat_lt (length done) most_cols) refl
+cols_next done ts ended = by_count (nat_lt (length done) MAX_COLUMNS) refl
   where
     begins_open : (t : Token) (us : List Token) → is_sign 44 t.symbol ≡ true → Begun (IsColDef done) us → ColsBegun done (t ∷ us)
     begins_open t us is (begun x vs p) = open_cols (longer_early (Behind IsColDef) done (t ∷ us) (begun x vs (both tt x (t ∷ []) (us ++ vs) (one t tt (ap standing is)) p)))
 
-    by_count : (b : Bool) → nat_lt (length done) most_cols ≡ b → NextOutcome (Behind IsColDef done) (ColsBegun done) (behind_comma col_def_at done) ts
+    by_count : (b : Bool) → nat_lt (length done) MAX_COLUMNS ≡ b → NextOutcome (Behind IsColDef done) (ColsBegun done) (behind_comma col_def_at done) ts
     by_count true few = comma_outcome IsColDef col_def_at (ColsBegun done) (Begun (IsColDef done)) done (going_col_def done few).forward begins_open ts ended
-    by_count false full = comma_outcome IsColDef col_def_at (ColsBegun done) (λ us. us ≡ []) done (full_col_def done full) (λ t us is empty. full_cols [] [] t (none done) is (ap (λ cols. nat_lt (length cols) most_cols) (append-nil done) ∙ full) (ap (λ vs. t ∷ vs) empty)) ts ended
+    by_count false full = comma_outcome IsColDef col_def_at (ColsBegun done) (λ us. us ≡ []) done (full_col_def done full) (λ t us is empty. full_cols [] [] t (none done) is (ap (λ cols. nat_lt (length cols) MAX_COLUMNS) (append-nil done) ∙ full) (ap (λ vs. t ∷ vs) empty)) ts ended
 
 cols_late : (done : List ColDef) (x : ColDef) (us vs : List Token) → Behind IsColDef done x us → ColsBegun (done ++ x ∷ []) vs → ColsBegun done (us ++ vs)
 cols_late done x us vs p (open_cols b) = open_cols (longer_late (Behind IsColDef) done x us vs p b)
-cols_late done x us vs p (full_cols xs ws comma q is full whole) = full_cols (x ∷ xs) (us ++ ws) comma (more done x xs us ws p q) is (ap (λ cols. nat_lt (length cols) most_cols) (sym (append_assoc done (x ∷ []) xs)) ∙ full) (ap (λ vs. us ++ vs) whole ∙ sym (append_assoc us ws (comma ∷ [])))
+cols_late done x us vs p (full_cols xs ws comma q is full whole) = full_cols (x ∷ xs) (us ++ ws) comma (more done x xs us ws p q) is (ap (λ cols. nat_lt (length cols) MAX_COLUMNS) (sym (append_assoc done (x ∷ []) xs)) ∙ full) (ap (λ vs. us ++ vs) whole ∙ sym (append_assoc us ws (comma ∷ [])))
 
 pub cols_go_on : GoesOn (behind_comma col_def_at)
 cols_go_on = commas_go_on col_def_at (λ done ts. col_def_within done ts (length ts) (omega arith))

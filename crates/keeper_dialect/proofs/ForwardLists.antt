@@ -8,10 +8,10 @@ use Rattle.std.proofs.lemmas.List.{length-append, length-map}
 use Rattle.std.proofs.lemmas.Slice.Eq.{bytes_eq-Decides}
 use Rattle.keeper_dialect.specs.declared.tokens.Symbol.TheVariants as symbol
 use Rattle.keeper_dialect.specs.declared.query.Add.{Add}
-use Rattle.keeper_dialect.specs.Tokens.{Token}
+use Rattle.keeper_dialect.specs.Tokens.{Token, is_same_name}
 use Rattle.keeper_dialect.specs.Reading.{Reading, and_then, repeated, behind_comma, separated, symbol_at, is_sign, sign_at}
 use Rattle.keeper_dialect.specs.Terms.{one_at, name_of, name_at, term_at, operator_of, operand_at, add_at, adds_at, expr_at}
-use Rattle.keeper_dialect.specs.Lists.{is_same_name, new_name_at}
+use Rattle.keeper_dialect.specs.Lists.{new_name_at}
 use Rattle.keeper_dialect.specs.Grammar.{Is, here, Then, both, Repeated, none, more, one, standing, Signed, IsTerm, IsAdd, IsExpr, unless, Separated, Bracketed, NewName}
 use Rattle.keeper_dialect.proofs.ReadingLemmas.{GoesOn, Within, then_ok, then_err}
 use Rattle.keeper_dialect.proofs.Shorter.{adds_go_on, commas_go_on}

@@ -1,14 +1,13 @@
 -- Words, signs, names and terms go forward.
 use Rattle.std.proofs.Common.{◌≡◌, ℕ, Bool, true, false, cond, eqb-true, List, [], ◌∷◌, length, Option, Some, None, refl, sym, ap, ◌∙◌, subst, codes, append-nil}
 use Rattle.std.specs.Prelude.{◌==◌, ◌&&◌, pos}
-use Rattle.sql_text.specs.Class.{is_word}
 use Rattle.keeper_dialect.specs.declared.tokens.Keyword.{Keyword}
 use Rattle.keeper_dialect.specs.declared.tokens.Keyword.TheVariants as keyword
 use Rattle.keeper_dialect.specs.declared.tokens.Symbol.{Symbol}
 use Rattle.keeper_dialect.specs.declared.tokens.Symbol.TheVariants as symbol
 use Rattle.keeper_dialect.specs.declared.query.Term.{Term}
 use Rattle.keeper_dialect.specs.declared.query.Term.TheVariants as term
-use Rattle.keeper_dialect.specs.Tokens.{Token}
+use Rattle.keeper_dialect.specs.Tokens.{Token, is_same_name}
 use Rattle.keeper_dialect.specs.Reading.{Reading, is_keyword, is_sign, keyword_at, sign_at}
 use Rattle.keeper_dialect.specs.Terms.{one_at, name_of, name_at, number_of, number_at, is_text, digits_behind, blob_or_name, word_term_at, other_term_of, other_term_at, term_at}
 use Rattle.keeper_dialect.specs.Query.{is_end}
@@ -107,22 +106,22 @@ word_outcome : (t : Token) (us : List Token) → t.symbol ≡ symbol.Word → En
 unfolding word_term_at
 word_outcome t us is ended =
     let h = head_of us ended in
-    subst (λ vs. Outcome IsTerm (Begun IsTerm) term_at (t ∷ vs)) (sym h.whole) (by_word (is_word t.text (codes "X")) h.token h.rest h.ended refl)
+    subst (λ vs. Outcome IsTerm (Begun IsTerm) term_at (t ∷ vs)) (sym h.whole) (by_word (is_same_name t.text (codes "X")) h.token h.rest h.ended refl)
   where
-    read : (u : Token) (b : Bool) (o : Option (List ℕ)) → is_word t.text (codes "X") ≡ b → cond b (digits_behind (u ∷ [])) None ≡ o → (ws : List Token) → term_at (t ∷ u ∷ ws) ≡ blob_or_name t.text o (u ∷ ws)
+    read : (u : Token) (b : Bool) (o : Option (List ℕ)) → is_same_name t.text (codes "X") ≡ b → cond b (digits_behind (u ∷ [])) None ≡ o → (ws : List Token) → term_at (t ∷ u ∷ ws) ≡ blob_or_name t.text o (u ∷ ws)
     read u b o word digits ws = term_at-symbol symbol.Word (t ∷ u ∷ ws) is ∙ ap (λ c. blob_or_name t.text (cond c (digits_behind (u ∷ ws)) None) (u ∷ ws)) word ∙ ap (λ o. blob_or_name t.text o (u ∷ ws)) digits
 
     named : (u : Token) (vs : List Token) → Ended (u ∷ vs) → ((ws : List Token) → term_at (t ∷ u ∷ ws) ≡ blob_or_name t.text None (u ∷ ws)) → Outcome IsTerm (Begun IsTerm) term_at (t ∷ u ∷ vs)
     named u vs ended reads = went (record { value = term.Name t.text; front = t ∷ []; token = u; rest = vs; is = name t t.text (ap (λ s. name_of s t.text) is); ended = ended; whole = refl; goes = reads })
 
-    by_digits : (o : Option (List ℕ)) (u : Token) (vs : List Token) → Ended (u ∷ vs) → is_word t.text (codes "X") ≡ true → digits_behind (u ∷ []) ≡ o → Outcome IsTerm (Begun IsTerm) term_at (t ∷ u ∷ vs)
+    by_digits : (o : Option (List ℕ)) (u : Token) (vs : List Token) → Ended (u ∷ vs) → is_same_name t.text (codes "X") ≡ true → digits_behind (u ∷ []) ≡ o → Outcome IsTerm (Begun IsTerm) term_at (t ∷ u ∷ vs)
     by_digits None u vs ended word digits = named u vs ended (read u true None word digits)
     by_digits (Some bytes) u vs ended word digits =
         let h = head_of vs (tail_ended u vs ended (digits_text u.symbol (length u.before == 0) _ bytes digits)) in
         let f = blob_front t (u ∷ []) bytes is word digits in
         went (record { value = term.Blob bytes; front = t ∷ u ∷ []; token = h.token; rest = h.rest; is = subst (IsTerm (term.Blob bytes)) (sym (append-nil f.front) ∙ sym f.whole) f.is; ended = h.ended; whole = ap (λ ws. t ∷ u ∷ ws) h.whole; goes = λ other. read u true (Some bytes) word digits (h.token ∷ other) })
 
-    by_word : (b : Bool) (u : Token) (vs : List Token) → Ended (u ∷ vs) → is_word t.text (codes "X") ≡ b → Outcome IsTerm (Begun IsTerm) term_at (t ∷ u ∷ vs)
+    by_word : (b : Bool) (u : Token) (vs : List Token) → Ended (u ∷ vs) → is_same_name t.text (codes "X") ≡ b → Outcome IsTerm (Begun IsTerm) term_at (t ∷ u ∷ vs)
     by_word true u vs ended word = by_digits (digits_behind (u ∷ [])) u vs ended word refl
     by_word false u vs ended word = named u vs ended (read u false None word refl)
 

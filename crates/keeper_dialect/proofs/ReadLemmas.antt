@@ -8,7 +8,7 @@ use Rattle.sql_text.specs.declared.pieces.Kind.TheVariants as kind
 use Rattle.sql_text.specs.declared.class.Class.{Class}
 use Rattle.sql_text.specs.declared.class.Class.TheVariants as class
 use Rattle.sql_text.specs.Pieces.{Token as Piece, token as piece, pieces}
-use Rattle.sql_text.specs.Class.{is_word, transaction_keyword, statement_keyword, class_of_words, class_of_text}
+use Rattle.sql_text.specs.Class.{transaction_keyword, statement_keyword, class_of_words, class_of_text}
 use Rattle.sql_text.specs.Words.{words}
 use Rattle.sql_text.specs.Parameters.{Numbered, number_taken, number_within}
 use Rattle.sql_text.proofs.ClassLemmas.{class_of_text-words}
@@ -18,7 +18,7 @@ use Rattle.keeper_dialect.specs.declared.tokens.Symbol.TheVariants as symbol
 use Rattle.keeper_dialect.specs.declared.query.Shown.{Shown}
 use Rattle.keeper_dialect.specs.declared.query.Shown.TheVariants as shown
 use Rattle.keeper_dialect.specs.declared.query.Query.{Query}
-use Rattle.keeper_dialect.specs.Tokens.{Token, early_keyword, late_keyword, keyword_or_word, or_keyword, symbol_of_word, parameter_or_stray, tokens_from, tokens_of}
+use Rattle.keeper_dialect.specs.Tokens.{Token, early_keyword, late_keyword, keyword_or_word, or_keyword, symbol_of_word, parameter_or_stray, tokens_from, tokens_of, is_same_name}
 use Rattle.keeper_dialect.specs.Reading.{symbol_at, is_keyword}
 use Rattle.keeper_dialect.specs.Query.{query_of}
 use Rattle.keeper_dialect.specs.Grammar.{here, both, first, second, one, From, Select, IsQuery, create, insert, select, update, delete}
@@ -84,9 +84,9 @@ spelling keyword.Values = codes "VALUES"
 spelling keyword.Where = codes "WHERE"
 
 abbrev IsSpelled : List ℕ → Keyword → Type 0
-IsSpelled word k = is_word word (spelling k) ≡ true
+IsSpelled word k = is_same_name word (spelling k) ≡ true
 
-tested : (word : List ℕ) (j k : Keyword) (rest : Option Keyword) (test : Bool) → is_word word (spelling j) ≡ test → (rest ≡ Some k → IsSpelled word k) → cond test (Some j) rest ≡ Some k → IsSpelled word k
+tested : (word : List ℕ) (j k : Keyword) (rest : Option Keyword) (test : Bool) → is_same_name word (spelling j) ≡ test → (rest ≡ Some k → IsSpelled word k) → cond test (Some j) rest ≡ Some k → IsSpelled word k
 tested word j k rest true spelled later is = let same : j ≡ k = cc is in subst (IsSpelled word) same spelled
 tested word j k rest false spelled later is = later is
 

@@ -51,9 +51,8 @@ pub stops_then : {A B : Type 0} (r : Reading A) (k : A → List Token → Readin
 stops_then r k (fail.Syntax at) stops = then_err r k at stops
 stops_then r k fail.NoMemory stops = tt
 
--- a refusal of what is the same
-pub stops_same : {A : Type 0} (r s : Reading A) (e : DialectFail) → s ≡ r → StopsAs r e → StopsAs s e
-stops_same r s e same stops = subst (λ q. StopsAs q e) (sym same) stops
+pub stops_behind : {A B : Type 0} (r : Reading A) (k : A → List Token → Reading B) (x : A) (rest : List Token) (e : DialectFail) → r ≡ Ok (x, rest) → StopsAs (k x rest) e → StopsAs (and_then r k) e
+stops_behind r k x rest e is stops = subst (λ q. StopsAs q e) (sym (then_ok r k x rest is)) stops
 
 -- a refusal that is handed on
 pub handed_on : {A B : Type 0} (result : Result A DialectFail) (e : DialectFail) (r : Reading B) → IsErrAnd result (λ f. f ≡ e) → StopsAs r e → IfErr result (StopsAs r)
@@ -146,12 +145,3 @@ comma_goes read done ts is = ap (λ test. cond test (Some (read done (drop 1 ts)
 
 pub comma_ends : {A : Type 0} (read : List A → List Token → Reading A) (done : List A) (ts : List Token) → is_sign 44 (symbol_at ts) ≡ false → behind_comma read done ts ≡ None
 comma_ends read done ts is = ap (λ test. cond test (Some (read done (drop 1 ts))) None) is
-
--- a list behind commas, whose first part is read
-pub separated-first : {A : Type 0} (read : List A → List Token → Reading A) (ts : List Token) (x : A) (rest : List Token) → read [] ts ≡ Ok (x, rest) → repeated (behind_comma read) (length rest) (x ∷ []) rest ≡ separated read ts
-unfolding separated
-separated-first read ts x rest is = sym (then_ok (read [] ts) (λ x rest. repeated (behind_comma read) (length rest) (x ∷ []) rest) x rest is)
-
-pub separated-stops : {A : Type 0} (read : List A → List Token → Reading A) (ts : List Token) (e : DialectFail) → StopsAs (read [] ts) e → StopsAs (separated read ts) e
-unfolding separated
-separated-stops read ts e stops = stops_then (read [] ts) _ e stops

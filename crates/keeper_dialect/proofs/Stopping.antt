@@ -2,6 +2,7 @@
 use Rattle.std.proofs.Common.{◌≡◌, ◌+◌, ℕ, Bool, true, false, cond, List, [], ◌∷◌, ◌++◌, length, Some, None, Ok, Err, refl, sym, ap, ◌∙◌, subst, append_assoc, append-nil, arith}
 use Rattle.std.proofs.lemmas.List.{length-append}
 use Rattle.std.specs.Prelude.{nat_lt}
+use Rattle.keeper_dialect.specs.declared.limits.TheConstants.{MAX_COLUMNS}
 use Rattle.keeper_dialect.specs.declared.tokens.Keyword.TheVariants as keyword
 use Rattle.keeper_dialect.specs.declared.tokens.Symbol.TheVariants as symbol
 use Rattle.keeper_dialect.specs.declared.query.ColDef.{ColDef}
@@ -10,7 +11,7 @@ use Rattle.keeper_dialect.specs.declared.query.Query.TheVariants as query
 use Rattle.keeper_dialect.specs.Tokens.{Token, tokens_of}
 use Rattle.keeper_dialect.specs.Reading.{Reading, and_then, repeated, behind_comma, separated, symbol_at, place_at, is_keyword, is_sign, keyword_at, sign_at}
 use Rattle.keeper_dialect.specs.Terms.{name_at}
-use Rattle.keeper_dialect.specs.Lists.{most_cols, col_def_at, cols_at, col_defs_at}
+use Rattle.keeper_dialect.specs.Lists.{col_def_at, cols_at, col_defs_at}
 use Rattle.keeper_dialect.specs.Query.{create_at, statement_at, is_end, whole_at, answer_of, query_of}
 use Rattle.keeper_dialect.specs.Grammar.{here, Then, both, Repeated, none, more, one, Keyed, Signed, Name, unless, IsColDef, IsQuery, IsQueryOf, create}
 use Rattle.keeper_dialect.specs.Stops.{FullCols, FullTable, CanBegin, by_query, by_columns, StopsAt, NoQueryStops, NoTextStopsAtTwoPlaces}
@@ -43,11 +44,11 @@ comma_closes done xs ws comma rest (none same) is = ap closes (sign_is 44 comma.
 comma_closes done xs ws comma rest (more same x ys us vs p ps) is = subst (λ ts. closes (symbol_at ts) ≡ true) (sym (append_assoc us vs (comma ∷ rest))) (exact_next_col.goes done x us (vs ++ comma ∷ rest) p)
 
 -- behind all the columns that a table may have, and a comma, any token is refused
-full_repeated : (done xs : List ColDef) (ws : List Token) (comma s : Token) (other : List Token) → Repeated (Behind IsColDef) done xs ws → is_sign 44 comma.symbol ≡ true → nat_lt (length (done ++ xs)) most_cols ≡ false → repeated (behind_comma col_def_at) (length (ws ++ comma ∷ s ∷ other)) done (ws ++ comma ∷ s ∷ other) ≡ Err s.start
-full_repeated done xs ws comma s other (none same) is full = repeated-fails (behind_comma col_def_at) cols_go_on done (comma ∷ s ∷ other) s.start (ap (λ b. cond b (Some (col_def_at done (s ∷ other))) None) is ∙ ap (λ r. Some r) (col_def_at-full done s other (ap (λ cols. nat_lt (length cols) most_cols) (sym (append-nil done)) ∙ full)))
+full_repeated : (done xs : List ColDef) (ws : List Token) (comma s : Token) (other : List Token) → Repeated (Behind IsColDef) done xs ws → is_sign 44 comma.symbol ≡ true → nat_lt (length (done ++ xs)) MAX_COLUMNS ≡ false → repeated (behind_comma col_def_at) (length (ws ++ comma ∷ s ∷ other)) done (ws ++ comma ∷ s ∷ other) ≡ Err s.start
+full_repeated done xs ws comma s other (none same) is full = repeated-fails (behind_comma col_def_at) cols_go_on done (comma ∷ s ∷ other) s.start (ap (λ b. cond b (Some (col_def_at done (s ∷ other))) None) is ∙ ap (λ r. Some r) (col_def_at-full done s other (ap (λ cols. nat_lt (length cols) MAX_COLUMNS) (sym (append-nil done)) ∙ full)))
 full_repeated done xs ws comma s other (more same x ys us vs p ps) is full =
     let at = exact_next_col.complete done x us (vs ++ comma ∷ s ∷ other) p (comma_closes (done ++ x ∷ []) ys vs comma (s ∷ other) ps is) in
-    ap (λ ts. repeated (behind_comma col_def_at) (length ts) done ts) (append_assoc us vs (comma ∷ s ∷ other)) ∙ repeated-goes (behind_comma col_def_at) cols_go_on done (us ++ (vs ++ comma ∷ s ∷ other)) x (vs ++ comma ∷ s ∷ other) at ∙ full_repeated (done ++ x ∷ []) ys vs comma s other ps is (ap (λ cols. nat_lt (length cols) most_cols) (append_assoc done (x ∷ []) ys) ∙ full)
+    ap (λ ts. repeated (behind_comma col_def_at) (length ts) done ts) (append_assoc us vs (comma ∷ s ∷ other)) ∙ repeated-goes (behind_comma col_def_at) cols_go_on done (us ++ (vs ++ comma ∷ s ∷ other)) x (vs ++ comma ∷ s ∷ other) at ∙ full_repeated (done ++ x ∷ []) ys vs comma s other ps is (ap (λ cols. nat_lt (length cols) MAX_COLUMNS) (append_assoc done (x ∷ []) ys) ∙ full)
 
 full_cols : (us : List Token) (s : Token) (other : List Token) → FullCols tt us → cols_at (us ++ s ∷ other) ≡ Err s.start
 unfolding cols_at separated

@@ -1,8 +1,8 @@
 -- The grammar of the dialect. A part says which tokens are which value: all of them, and no more.
 use Rattle.std.specs.Prelude.{◌≡◌, ℕ, ℤ, Bool, true, false, List, [], ◌∷◌, ◌++◌, length, nat_lt, not, ◌&&◌, if◌then◌else◌, codes, Option, Some, None, Ok}
-use Rattle.sql_text.specs.Class.{is_word}
 use Rattle.sql_text.specs.Parameters.{digits_value}
 use Rattle.hex.specs.Hex.{decode_of}
+use Rattle.keeper_dialect.specs.declared.limits.TheConstants.{MAX_COLUMNS}
 use Rattle.keeper_dialect.specs.declared.tokens.Keyword.{Keyword}
 use Rattle.keeper_dialect.specs.declared.tokens.Keyword.TheVariants as keyword
 use Rattle.keeper_dialect.specs.declared.tokens.Symbol.TheVariants as symbol
@@ -19,11 +19,11 @@ use Rattle.keeper_dialect.specs.declared.query.Shown.{Shown}
 use Rattle.keeper_dialect.specs.declared.query.Shown.TheVariants as shown
 use Rattle.keeper_dialect.specs.declared.query.Query.{Query}
 use Rattle.keeper_dialect.specs.declared.query.Query.TheVariants as query
-use Rattle.keeper_dialect.specs.Tokens.{Token, tokens_of}
+use Rattle.keeper_dialect.specs.Tokens.{Token, tokens_of, is_same_name}
 use Rattle.keeper_dialect.specs.Reading.{symbol_at, is_keyword, is_sign}
 use Rattle.keeper_dialect.specs.Terms.{name_of, signed, unquoted, without_quotes, operator_of}
 use Rattle.keeper_dialect.specs.Query.{is_end, query_of}
-use Rattle.keeper_dialect.specs.Lists.{is_among, is_set, is_col, has_key, is_plain_word, most_cols, source_text}
+use Rattle.keeper_dialect.specs.Lists.{is_among, is_set, is_col, has_key, is_plain_word, source_text}
 
 -- a value that takes no token
 pub data Is {A : Type 0} (x : A) : A → List Token → Type 0 where
@@ -68,7 +68,7 @@ pub data IsTerm : Term → List Token → Type 0 where
   number : (t : Token) (n : ℤ) → t.symbol ≡ symbol.Number → signed false (digits_value 0 t.text) ≡ Some n → IsTerm (term.Number n) (t ∷ [])
   negative : (minus t : Token) (n : ℤ) → minus.symbol ≡ symbol.Sign 45 → t.symbol ≡ symbol.Number → signed true (digits_value 0 t.text) ≡ Some n → IsTerm (term.Number n) (minus ∷ t ∷ [])
   text : (t : Token) → t.symbol ≡ symbol.Text → IsTerm (term.Text (unquoted 39 t.text)) (t ∷ [])
-  blob : (x t : Token) (bytes : List ℕ) → x.symbol ≡ symbol.Word → is_word x.text (codes "X") ≡ true → t.symbol ≡ symbol.Text → t.before ≡ [] → decode_of (without_quotes 39 t.text) ≡ Ok bytes → IsTerm (term.Blob bytes) (x ∷ t ∷ [])
+  blob : (x t : Token) (bytes : List ℕ) → x.symbol ≡ symbol.Word → is_same_name x.text (codes "X") ≡ true → t.symbol ≡ symbol.Text → t.before ≡ [] → decode_of (without_quotes 39 t.text) ≡ Ok bytes → IsTerm (term.Blob bytes) (x ∷ t ∷ [])
   null : (t : Token) → t.symbol ≡ symbol.Keyword keyword.Null → IsTerm term.Null (t ∷ [])
   parameter : (t : Token) (n : ℕ) → t.symbol ≡ symbol.Parameter n → IsTerm (term.Param n) (t ∷ [])
   name : (t : Token) (name : List ℕ) → name_of t.symbol t.text ≡ Some name → IsTerm (term.Name name) (t ∷ [])
@@ -116,9 +116,9 @@ TypeName = Either (Then (Single (λ t. standing (is_plain_word t.symbol))) (λ _
 abbrev pub KeyMark : Bool → Bool → List Token → Type 0
 KeyMark had = Unless (λ key. key && had) (Either (Then (Keyed keyword.Primary) (λ _. Then (Keyed keyword.Key) (λ _. Is true))) (Is false))
 
--- name [ word ] [ PRIMARY KEY ], of which there are at most 64, no two with one name
+-- name [ word ] [ PRIMARY KEY ], of which a table has at most so many, no two with one name
 abbrev pub IsColDef : List ColDef → ColDef → List Token → Type 0
-IsColDef done = Then (Unless (λ name. not (nat_lt (length done) most_cols)) (NewName (is_col done))) (λ name. Then TypeName (λ _. Then (KeyMark (has_key done)) (λ key. Is (record { name = name; key = key }))))
+IsColDef done = Then (Unless (λ name. not (nat_lt (length done) MAX_COLUMNS)) (NewName (is_col done))) (λ name. Then TypeName (λ _. Then (KeyMark (has_key done)) (λ key. Is (record { name = name; key = key }))))
 
 -- [ WHERE name = expr ]
 abbrev pub Filter : Option ColExpr → List Token → Type 0

@@ -1,21 +1,17 @@
 -- The lists of the dialect: columns, names, tuples, settings and what is shown.
 use Rattle.std.specs.Prelude.{◌-◌, ℕ, nat_lt, Bool, true, false, List, [], ◌∷◌, ◌++◌, length, drop, take, flat_map, Ok, Err, if◌then◌else◌}
 use Rattle.std.specs.List.{list_any}
-use Rattle.std.specs.Str.{str_eq_ignore_ascii_case}
 use Rattle.keeper_dialect.specs.declared.tokens.Keyword.TheVariants as keyword
 use Rattle.keeper_dialect.specs.declared.tokens.Symbol.{Symbol}
 use Rattle.keeper_dialect.specs.declared.tokens.Symbol.TheVariants as symbol
+use Rattle.keeper_dialect.specs.declared.limits.TheConstants.{MAX_COLUMNS}
 use Rattle.keeper_dialect.specs.declared.query.Expr.{Expr}
 use Rattle.keeper_dialect.specs.declared.query.ColDef.{ColDef}
 use Rattle.keeper_dialect.specs.declared.query.ColExpr.{ColExpr}
 use Rattle.keeper_dialect.specs.declared.query.Item.{Item}
-use Rattle.keeper_dialect.specs.Tokens.{Token}
-use Rattle.keeper_dialect.specs.Reading.{Reading, and_then, symbol_at, place_at, is_keyword, keyword_at, sign_at, separated}
+use Rattle.keeper_dialect.specs.Tokens.{Token, is_same_name}
+use Rattle.keeper_dialect.specs.Reading.{Reading, and_then, symbol_at, place_at, is_keyword, keyword_at, sign_at, separated, bracketed_at}
 use Rattle.keeper_dialect.specs.Terms.{name_at, expr_at}
-
--- names compare without regard to ASCII case
-abbrev pub is_same_name : List ℕ → List ℕ → Bool
-is_same_name a b = str_eq_ignore_ascii_case a b
 
 abbrev pub is_among : List (List ℕ) → List ℕ → Bool
 is_among names name = list_any (λ other. is_same_name other name) names
@@ -30,20 +26,14 @@ name_list_at ts = separated (λ done. new_name_at (is_among done)) ts
 
 -- names in brackets, no two the same
 unfoldable pub names_at : List Token → Reading (List (List ℕ))
-names_at ts =
-    and_then (sign_at 40 ts) (λ _ inner.
-    and_then (name_list_at inner) (λ names after.
-    and_then (sign_at 41 after) (λ _ rest. Ok (names, rest))))
+names_at ts = bracketed_at name_list_at ts
 
 unfoldable pub exprs_at : List Token → Reading (List Expr)
 exprs_at ts = separated (λ done. expr_at) ts
 
 -- expressions in brackets
 unfoldable pub tuple_at : List Token → Reading (List Expr)
-tuple_at ts =
-    and_then (sign_at 40 ts) (λ _ inner.
-    and_then (exprs_at inner) (λ exprs after.
-    and_then (sign_at 41 after) (λ _ rest. Ok (exprs, rest))))
+tuple_at ts = bracketed_at exprs_at ts
 
 unfoldable pub tuples_at : List Token → Reading (List (List Expr))
 tuples_at ts = separated (λ done. tuple_at) ts
@@ -85,15 +75,8 @@ items_at ts = separated (λ done. item_at) ts
 
 -- a word that isn't reserved
 abbrev pub is_plain_word : Symbol → Bool
-is_plain_word (symbol.Keyword k) = false
 is_plain_word symbol.Word = true
-is_plain_word symbol.QuotedName = false
-is_plain_word symbol.Text = false
-is_plain_word symbol.Number = false
-is_plain_word (symbol.Parameter n) = false
-is_plain_word (symbol.Sign b) = false
-is_plain_word symbol.Stray = false
-is_plain_word symbol.End = false
+is_plain_word _ = false
 
 -- behind a type's name, which may be left out
 abbrev pub after_type : Symbol → List Token → List Token
@@ -105,10 +88,6 @@ is_col cols name = list_any (λ col. is_same_name col.name name) cols
 abbrev pub has_key : List ColDef → Bool
 has_key cols = list_any (λ col. col.key) cols
 
--- the most columns of a table
-abbrev pub most_cols : ℕ
-most_cols = 64
-
 -- whether `PRIMARY KEY` stands, which mustn't come a second time
 unfoldable pub key_at : Bool → List Token → Reading Bool
 key_at had ts =
@@ -116,9 +95,9 @@ key_at had ts =
     then (if had then Err (place_at ts) else and_then (keyword_at keyword.Key (drop 1 ts)) (λ _ rest. Ok (true, rest)))
     else Ok (false, ts)
 
--- the name of a column, of which there are at most 64, no two the same
+-- the name of a column, of which a table has at most so many, no two the same
 unfoldable pub col_name_at : List ColDef → List Token → Reading (List ℕ)
-col_name_at done ts = if nat_lt (length done) most_cols then new_name_at (is_col done) ts else Err (place_at ts)
+col_name_at done ts = if nat_lt (length done) MAX_COLUMNS then new_name_at (is_col done) ts else Err (place_at ts)
 
 unfoldable pub col_def_at : List ColDef → List Token → Reading ColDef
 col_def_at done ts =
@@ -130,7 +109,4 @@ cols_at ts = separated col_def_at ts
 
 -- columns in brackets
 unfoldable pub col_defs_at : List Token → Reading (List ColDef)
-col_defs_at ts =
-    and_then (sign_at 40 ts) (λ _ inner.
-    and_then (cols_at inner) (λ cols after.
-    and_then (sign_at 41 after) (λ _ rest. Ok (cols, rest))))
+col_defs_at ts = bracketed_at cols_at ts

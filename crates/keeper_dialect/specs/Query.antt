@@ -89,46 +89,23 @@ delete_at ts =
 
 -- a statement, by its first word
 abbrev pub statement_by : Keyword → List Token → Reading Query
-statement_by keyword.Count ts = Err (place_at ts)
 statement_by keyword.Create ts = create_at (drop 1 ts)
-statement_by keyword.Delete ts = delete_at (drop 1 ts)
-statement_by keyword.From ts = Err (place_at ts)
 statement_by keyword.Insert ts = insert_at (drop 1 ts)
-statement_by keyword.Into ts = Err (place_at ts)
-statement_by keyword.Key ts = Err (place_at ts)
-statement_by keyword.Null ts = Err (place_at ts)
-statement_by keyword.Primary ts = Err (place_at ts)
 statement_by keyword.Select ts = select_at (drop 1 ts)
-statement_by keyword.Set ts = Err (place_at ts)
-statement_by keyword.Table ts = Err (place_at ts)
 statement_by keyword.Update ts = update_at (drop 1 ts)
-statement_by keyword.Values ts = Err (place_at ts)
-statement_by keyword.Where ts = Err (place_at ts)
+statement_by keyword.Delete ts = delete_at (drop 1 ts)
+statement_by _ ts = Err (place_at ts)
 
 abbrev pub statement_of : Symbol → List Token → Reading Query
 statement_of (symbol.Keyword k) ts = statement_by k ts
-statement_of symbol.Word ts = Err (place_at ts)
-statement_of symbol.QuotedName ts = Err (place_at ts)
-statement_of symbol.Text ts = Err (place_at ts)
-statement_of symbol.Number ts = Err (place_at ts)
-statement_of (symbol.Parameter n) ts = Err (place_at ts)
-statement_of (symbol.Sign b) ts = Err (place_at ts)
-statement_of symbol.Stray ts = Err (place_at ts)
-statement_of symbol.End ts = Err (place_at ts)
+statement_of _ ts = Err (place_at ts)
 
 unfoldable pub statement_at : List Token → Reading Query
 statement_at ts = statement_of (symbol_at ts) ts
 
 abbrev pub is_end : Symbol → Bool
-is_end (symbol.Keyword k) = false
-is_end symbol.Word = false
-is_end symbol.QuotedName = false
-is_end symbol.Text = false
-is_end symbol.Number = false
-is_end (symbol.Parameter n) = false
-is_end (symbol.Sign b) = false
-is_end symbol.Stray = false
 is_end symbol.End = true
+is_end _ = false
 
 -- a whole query, behind which the text ends
 unfoldable pub whole_at : List Token → Reading Query

@@ -1,5 +1,5 @@
 -- Readings: what the front of some tokens is, and what follows it, or where the token starts that can't follow.
-use Rattle.std.specs.Prelude.{◌==◌, ◌≡◌, ℕ, zero, suc, Bool, true, false, List, [], ◌∷◌, ◌++◌, drop, length, Option, Some, None, Result, Ok, Err, if◌then◌else◌}
+use Rattle.std.specs.Prelude.{◌==◌, ◌≡◌, ◌≤◌, ℕ, zero, suc, Bool, true, false, List, [], ◌∷◌, ◌++◌, drop, length, Option, Some, None, Result, Ok, Err, if◌then◌else◌}
 use Rattle.keeper_dialect.specs.declared.tokens.Keyword.{Keyword}
 use Rattle.keeper_dialect.specs.declared.tokens.Keyword.TheVariants as keyword
 use Rattle.keeper_dialect.specs.declared.tokens.Symbol.{Symbol}
@@ -52,25 +52,11 @@ rank_of keyword.Where = 14
 
 abbrev pub is_keyword : Keyword → Symbol → Bool
 is_keyword k (symbol.Keyword j) = rank_of j == rank_of k
-is_keyword k symbol.Word = false
-is_keyword k symbol.QuotedName = false
-is_keyword k symbol.Text = false
-is_keyword k symbol.Number = false
-is_keyword k (symbol.Parameter n) = false
-is_keyword k (symbol.Sign b) = false
-is_keyword k symbol.Stray = false
-is_keyword k symbol.End = false
+is_keyword k _ = false
 
 abbrev pub is_sign : ℕ → Symbol → Bool
-is_sign sign (symbol.Keyword j) = false
-is_sign sign symbol.Word = false
-is_sign sign symbol.QuotedName = false
-is_sign sign symbol.Text = false
-is_sign sign symbol.Number = false
-is_sign sign (symbol.Parameter n) = false
 is_sign sign (symbol.Sign b) = b == sign
-is_sign sign symbol.Stray = false
-is_sign sign symbol.End = false
+is_sign sign _ = false
 
 -- a reserved word
 unfoldable pub keyword_at : Keyword → List Token → Reading Unit
@@ -79,10 +65,6 @@ keyword_at k ts = if is_keyword k (symbol_at ts) then Ok (tt, drop 1 ts) else Er
 -- a sign
 unfoldable pub sign_at : ℕ → List Token → Reading Unit
 sign_at sign ts = if is_sign sign (symbol_at ts) then Ok (tt, drop 1 ts) else Err (place_at ts)
-
--- whether a reserved word stands, which is then passed
-abbrev pub perhaps_keyword : Keyword → List Token → Bool × List Token
-perhaps_keyword k ts = if is_keyword k (symbol_at ts) then (true, drop 1 ts) else (false, ts)
 
 -- what is read of one production after others of a list, where the list goes on
 abbrev pub continued : {A : Type 0} → List A → List Token → Option (Reading A) → (A → List Token → Reading (List A)) → Reading (List A)
@@ -103,6 +85,22 @@ behind_comma read done ts = if is_sign 44 (symbol_at ts) then Some (read done (d
 -- One, and more behind commas. Each may depend on those before it.
 unfoldable pub separated : {A : Type 0} → (List A → List Token → Reading A) → List Token → Reading (List A)
 separated read ts = and_then (read [] ts) (λ x rest. repeated (behind_comma read) (length rest) (x ∷ []) rest)
+
+-- The same with what comes before it: those that are read, behind which the next one has to be.
+abbrev pub separated_behind : {A : Type 0} → (List A → List Token → Reading A) → List A → List Token → Reading (List A)
+separated_behind read done ts = and_then (read done ts) (λ x rest. repeated (behind_comma read) (length rest) (done ++ x ∷ []) rest)
+
+-- what stands in brackets
+abbrev pub bracketed_at : {A : Type 0} → (List Token → Reading A) → List Token → Reading A
+bracketed_at read ts =
+    and_then (sign_at 40 ts) (λ _ inner.
+    and_then (read inner) (λ x after.
+    and_then (sign_at 41 after) (λ _ rest. Ok (x, rest))))
+
+-- parts of a list leave no more tokens than there were, and none takes a name before the first
+pub record Shrinks {A : Type 0} (read : List A → List Token → Reading A) (is_taken_by : List A → List ℕ → Bool) : Type 0 where
+  pub less : (done : List A) (ts : List Token) (x : A) (rest : List Token) → read done ts ≡ Ok (x, rest) → length rest ≤ length ts
+  pub free : (name : List ℕ) → is_taken_by [] name ≡ false
 
 -- an answer is what is read, unless memory ran out
 abbrev pub StopsAs : {A : Type 0} → Reading A → DialectFail → Type 0

@@ -8,11 +8,8 @@ use Rattle.keeper_dialect.specs.Query.{query_of}
 
 -- a query that only reads
 abbrev pub is_select : Query → Bool
-is_select (query.Create table cols) = false
-is_select (query.Insert table names tuples) = false
 is_select (query.Select what table filter) = true
-is_select (query.Update table sets filter) = false
-is_select (query.Delete table filter) = false
+is_select _ = false
 
 -- the query of a text whose class is `Read` only reads
 abbrev pub EachReadIsASelect : Type 0

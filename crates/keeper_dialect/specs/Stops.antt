@@ -1,17 +1,17 @@
 -- The place where a text stops, by the grammar.
 use Rattle.std.specs.Prelude.{◌≡◌, ℕ, nat_lt, true, List, [], ◌∷◌, ◌++◌, length}
+use Rattle.keeper_dialect.specs.declared.limits.TheConstants.{MAX_COLUMNS}
 use Rattle.keeper_dialect.specs.declared.tokens.Keyword.TheVariants as keyword
 use Rattle.keeper_dialect.specs.declared.query.DialectFail.{DialectFail}
 use Rattle.keeper_dialect.specs.declared.query.DialectFail.TheVariants as fail
 use Rattle.keeper_dialect.specs.declared.query.Query.{Query}
 use Rattle.keeper_dialect.specs.Tokens.{Token, tokens_of}
-use Rattle.keeper_dialect.specs.Lists.{most_cols}
 use Rattle.keeper_dialect.specs.Query.{is_end}
 use Rattle.keeper_dialect.specs.Grammar.{Then, Unless, Keyed, Signed, Name, Separated, IsColDef, IsQuery, IsQueryOf}
 
 -- coldef { , coldef } , with as many columns as a table may have
 abbrev pub FullCols : Unit {0} → List Token → Type 0
-FullCols = Then (Unless (λ cols. nat_lt (length cols) most_cols) (Separated IsColDef)) (λ cols. Signed 44)
+FullCols = Then (Unless (λ cols. nat_lt (length cols) MAX_COLUMNS) (Separated IsColDef)) (λ cols. Signed 44)
 
 -- CREATE TABLE name ( coldef { , coldef } , behind which one column more is too many
 abbrev pub FullTable : Unit {0} → List Token → Type 0

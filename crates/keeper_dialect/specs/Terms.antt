@@ -1,6 +1,5 @@
 -- Names, terms and expressions at the front of some tokens.
 use Rattle.std.specs.Prelude.{◌==◌, ◌-◌, ◌^◌, ℕ, zero, suc, ℤ, pos, negsuc, nat_lt, nat_le, Bool, true, false, ◌&&◌, List, [], ◌∷◌, length, drop, slice_index, slice_range, codes, Option, Some, None, Result, Ok, Err, if◌then◌else◌}
-use Rattle.sql_text.specs.Class.{is_word}
 use Rattle.sql_text.specs.Parameters.{digits_value}
 use Rattle.hex.specs.Hex.{decode_of}
 use Rattle.hex.specs.declared.error.FromHexError.{FromHexError}
@@ -12,7 +11,7 @@ use Rattle.keeper_dialect.specs.declared.query.Term.TheVariants as term
 use Rattle.keeper_dialect.specs.declared.query.Add.{Add}
 use Rattle.keeper_dialect.specs.declared.query.Expr.{Expr}
 use Rattle.keeper_dialect.specs.declared.query.ColExpr.{ColExpr}
-use Rattle.keeper_dialect.specs.Tokens.{Token}
+use Rattle.keeper_dialect.specs.Tokens.{Token, is_same_name}
 use Rattle.keeper_dialect.specs.Reading.{Reading, and_then, symbol_at, text_at, before_at, place_at, is_keyword, is_sign, sign_at, repeated}
 
 -- a run without the quotes round it
@@ -33,15 +32,9 @@ unquoted quote text = undoubled quote (without_quotes quote text)
 
 -- the name that a token is
 abbrev pub name_of : Symbol → List ℕ → Option (List ℕ)
-name_of (symbol.Keyword k) text = None
 name_of symbol.Word text = Some text
 name_of symbol.QuotedName text = Some (unquoted 34 text)
-name_of symbol.Text text = None
-name_of symbol.Number text = None
-name_of (symbol.Parameter n) text = None
-name_of (symbol.Sign b) text = None
-name_of symbol.Stray text = None
-name_of symbol.End text = None
+name_of _ text = None
 
 -- one token, if it is what is read
 abbrev pub one_at : {A : Type 0} → Option A → List Token → Reading A
@@ -67,29 +60,15 @@ number_term (Some n) = Some (term.Number n)
 number_term None = None
 
 abbrev pub number_of : Bool → Symbol → List ℕ → Option Term
-number_of minus (symbol.Keyword k) text = None
-number_of minus symbol.Word text = None
-number_of minus symbol.QuotedName text = None
-number_of minus symbol.Text text = None
 number_of minus symbol.Number text = number_term (signed minus (digits_value 0 text))
-number_of minus (symbol.Parameter n) text = None
-number_of minus (symbol.Sign b) text = None
-number_of minus symbol.Stray text = None
-number_of minus symbol.End text = None
+number_of minus _ text = None
 
 unfoldable pub number_at : Bool → List Token → Reading Term
 number_at minus ts = one_at (number_of minus (symbol_at ts) (text_at ts)) ts
 
 abbrev pub is_text : Symbol → Bool
-is_text (symbol.Keyword k) = false
-is_text symbol.Word = false
-is_text symbol.QuotedName = false
 is_text symbol.Text = true
-is_text symbol.Number = false
-is_text (symbol.Parameter n) = false
-is_text (symbol.Sign b) = false
-is_text symbol.Stray = false
-is_text symbol.End = false
+is_text _ = false
 
 abbrev pub ok_of : Result (List ℕ) FromHexError → Option (List ℕ)
 ok_of (Ok bytes) = Some bytes
@@ -108,34 +87,24 @@ blob_or_name word (Some bytes) rest = Ok (term.Blob bytes, drop 1 rest)
 
 unfoldable pub word_term_at : List Token → Reading Term
 word_term_at ts =
-    blob_or_name (text_at ts) (if is_word (text_at ts) (codes "X") then digits_behind (drop 1 ts) else None) (drop 1 ts)
+    blob_or_name (text_at ts) (if is_same_name (text_at ts) (codes "X") then digits_behind (drop 1 ts) else None) (drop 1 ts)
 
 -- the term of one token that is neither a word nor a number
 abbrev pub other_term_of : Symbol → List ℕ → Option Term
 other_term_of (symbol.Keyword k) text = if is_keyword keyword.Null (symbol.Keyword k) then Some term.Null else None
-other_term_of symbol.Word text = None
 other_term_of symbol.QuotedName text = Some (term.Name (unquoted 34 text))
 other_term_of symbol.Text text = Some (term.Text (unquoted 39 text))
-other_term_of symbol.Number text = None
 other_term_of (symbol.Parameter n) text = Some (term.Param n)
-other_term_of (symbol.Sign b) text = None
-other_term_of symbol.Stray text = None
-other_term_of symbol.End text = None
+other_term_of _ text = None
 
 unfoldable pub other_term_at : List Token → Reading Term
 other_term_at ts = one_at (other_term_of (symbol_at ts) (text_at ts)) ts
 
 -- a term with no minus
 abbrev pub unsigned_term_by : Symbol → List Token → Reading Term
-unsigned_term_by (symbol.Keyword k) ts = other_term_at ts
 unsigned_term_by symbol.Word ts = word_term_at ts
-unsigned_term_by symbol.QuotedName ts = other_term_at ts
-unsigned_term_by symbol.Text ts = other_term_at ts
 unsigned_term_by symbol.Number ts = number_at false ts
-unsigned_term_by (symbol.Parameter n) ts = other_term_at ts
-unsigned_term_by (symbol.Sign b) ts = other_term_at ts
-unsigned_term_by symbol.Stray ts = other_term_at ts
-unsigned_term_by symbol.End ts = other_term_at ts
+unsigned_term_by _ ts = other_term_at ts
 
 unfoldable pub term_at : List Token → Reading Term
 term_at ts = if is_sign 45 (symbol_at ts) then number_at true (drop 1 ts) else unsigned_term_by (symbol_at ts) ts

@@ -1,9 +1,9 @@
 -- The tokens of a text: its pieces that are neither blank nor comment, and one more where the text ends.
 use Rattle.std.specs.Prelude.{◌==◌, ◌+◌, ℕ, Bool, true, false, List, [], ◌∷◌, ◌++◌, map, length, slice_index, codes, Option, Some, None, if◌then◌else◌}
+use Rattle.std.specs.Str.{str_eq_ignore_ascii_case}
 use Rattle.sql_text.specs.declared.pieces.Kind.{Kind}
 use Rattle.sql_text.specs.declared.pieces.Kind.TheVariants as kind
 use Rattle.sql_text.specs.Pieces.{Token as Piece, pieces}
-use Rattle.sql_text.specs.Class.{is_word}
 use Rattle.sql_text.specs.Parameters.{Numbered, number_taken, number_within, with_fitting}
 use Rattle.keeper_dialect.specs.declared.tokens.Keyword.{Keyword}
 use Rattle.keeper_dialect.specs.declared.tokens.Keyword.TheVariants as keyword
@@ -18,29 +18,33 @@ pub record Token : Type 0 where
   pub text : List ℕ
   pub start : ℕ
 
+-- names and words compare without regard to ASCII case
+abbrev pub is_same_name : List ℕ → List ℕ → Bool
+is_same_name a b = str_eq_ignore_ascii_case a b
+
 -- the reserved words from `COUNT` to `NULL`
 unfoldable pub early_keyword : List ℕ → Option Keyword
 early_keyword word =
-    if is_word word (codes "COUNT") then Some keyword.Count
-    else (if is_word word (codes "CREATE") then Some keyword.Create
-    else (if is_word word (codes "DELETE") then Some keyword.Delete
-    else (if is_word word (codes "FROM") then Some keyword.From
-    else (if is_word word (codes "INSERT") then Some keyword.Insert
-    else (if is_word word (codes "INTO") then Some keyword.Into
-    else (if is_word word (codes "KEY") then Some keyword.Key
-    else (if is_word word (codes "NULL") then Some keyword.Null
+    if is_same_name word (codes "COUNT") then Some keyword.Count
+    else (if is_same_name word (codes "CREATE") then Some keyword.Create
+    else (if is_same_name word (codes "DELETE") then Some keyword.Delete
+    else (if is_same_name word (codes "FROM") then Some keyword.From
+    else (if is_same_name word (codes "INSERT") then Some keyword.Insert
+    else (if is_same_name word (codes "INTO") then Some keyword.Into
+    else (if is_same_name word (codes "KEY") then Some keyword.Key
+    else (if is_same_name word (codes "NULL") then Some keyword.Null
     else None)))))))
 
 -- the reserved words from `PRIMARY` to `WHERE`
 unfoldable pub late_keyword : List ℕ → Option Keyword
 late_keyword word =
-    if is_word word (codes "PRIMARY") then Some keyword.Primary
-    else (if is_word word (codes "SELECT") then Some keyword.Select
-    else (if is_word word (codes "SET") then Some keyword.Set
-    else (if is_word word (codes "TABLE") then Some keyword.Table
-    else (if is_word word (codes "UPDATE") then Some keyword.Update
-    else (if is_word word (codes "VALUES") then Some keyword.Values
-    else (if is_word word (codes "WHERE") then Some keyword.Where
+    if is_same_name word (codes "PRIMARY") then Some keyword.Primary
+    else (if is_same_name word (codes "SELECT") then Some keyword.Select
+    else (if is_same_name word (codes "SET") then Some keyword.Set
+    else (if is_same_name word (codes "TABLE") then Some keyword.Table
+    else (if is_same_name word (codes "UPDATE") then Some keyword.Update
+    else (if is_same_name word (codes "VALUES") then Some keyword.Values
+    else (if is_same_name word (codes "WHERE") then Some keyword.Where
     else None))))))
 
 abbrev pub keyword_or_word : Option Keyword → Symbol
@@ -65,36 +69,23 @@ parameter_or_stray None = symbol.Stray
 
 -- what a piece is, after some parameters
 abbrev pub symbol_of : List Numbered → Kind → List ℕ → Symbol
-symbol_of seen kind.Blank bytes = symbol.Stray
-symbol_of seen kind.Comment bytes = symbol.Stray
 symbol_of seen kind.Quoted bytes = symbol_of_run (slice_index bytes 0)
 symbol_of seen kind.Parameter bytes = parameter_or_stray (number_within (number_taken seen bytes))
 symbol_of seen kind.Word bytes = symbol_of_word bytes
 symbol_of seen kind.Number bytes = symbol.Number
 symbol_of seen (kind.Sign b) bytes = symbol.Sign b
-symbol_of seen kind.Unclosed bytes = symbol.Stray
+symbol_of seen _ bytes = symbol.Stray
 
 -- the parameters so far, and a piece, if it is one
 abbrev pub seen_after : List Numbered → Kind → List ℕ → List Numbered
-seen_after seen kind.Blank bytes = seen
-seen_after seen kind.Comment bytes = seen
-seen_after seen kind.Quoted bytes = seen
 seen_after seen kind.Parameter bytes = with_fitting seen bytes
-seen_after seen kind.Word bytes = seen
-seen_after seen kind.Number bytes = seen
-seen_after seen (kind.Sign b) bytes = seen
-seen_after seen kind.Unclosed bytes = seen
+seen_after seen _ bytes = seen
 
 -- blanks and comments
 abbrev pub is_passed : Kind → Bool
 is_passed kind.Blank = true
 is_passed kind.Comment = true
-is_passed kind.Quoted = false
-is_passed kind.Parameter = false
-is_passed kind.Word = false
-is_passed kind.Number = false
-is_passed (kind.Sign b) = false
-is_passed kind.Unclosed = false
+is_passed _ = false
 
 abbrev pub end_token : List ℕ → ℕ → Token
 end_token before start = record { symbol = symbol.End; before = before; text = []; start = start }

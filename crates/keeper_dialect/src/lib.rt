@@ -19,22 +19,24 @@
 
 mod exprs;
 mod laws;
+mod limits;
 mod lists;
 mod names;
 mod parser;
+mod parts;
 mod query;
 mod reader;
 mod statements;
 mod taken;
 mod terms;
-#[cfg(test)]
-mod tests;
 mod tokens;
 
 pub use laws::{
     each_read_is_a_select, no_query_stops, no_text_is_two_queries, no_text_stops_at_two_places,
     queries_are_read,
 };
+pub use limits::{MAX_COLUMNS, limits_are};
+pub use names::is_same_name;
 pub use parser::parse;
 pub use query::{
     Add, Adds, ColDef, ColDefs, ColExpr, ColExprs, DialectFail, Expr, Exprs, Item, Items, NameList,

@@ -1,9 +1,17 @@
-// Quoted runs without their quotes.
+// Names and words, and quoted runs without their quotes.
 ghost use Rattle.std.specs.Prelude.{◌≡◌, ◌==◌, ◌&&◌, ◌+◌, ◌<◌, length, slice_index, IfOk};
+ghost use Rattle.keeper_dialect.specs.Tokens.{is_same_name};
 ghost use Rattle.keeper_dialect.specs.Terms.{without_quotes, undoubled, unquoted};
 
 use hrana_value::{NoMemory, Txt};
 use std::alloc::Global;
+
+/// Names and words compare without regard to ASCII case.
+pub fn is_same_name(name: &str, other: &str) -> bool
+    ensures { result ≡ is_same_name name.now other.now }
+{
+    name.eq_ignore_ascii_case(other)
+}
 
 /// A run without the quotes round it.
 #[tactic(auto, unfolding(crate::specs::Terms::without_quotes))]

@@ -1,5 +1,5 @@
 // Statements.
-ghost use Rattle.std.specs.Prelude.{◌≡◌, drop, IfOk, IfErr};
+ghost use Rattle.std.specs.Prelude.{◌≡◌, true, false, drop, IfOk, IfErr};
 ghost use Rattle.keeper_dialect.specs.declared.query.Shown.{Shown};
 ghost use Rattle.keeper_dialect.specs.Reading.{and_then, place_at, symbol_at, StopsAs};
 ghost use Rattle.keeper_dialect.specs.Query.{filter_at, create_at, some_names_at, insert_at, from_at, count_at, list_at, select_at, update_at, delete_at, statement_by, statement_of, statement_at, is_end, whole_at};
@@ -34,19 +34,19 @@ impl<'a> Reader<'a> {
     }
 
     /// What follows `CREATE`.
-    #[tactic(auto, unfolding(crate::specs::Query::create_at, crate::specs::Reading::and_then))]
+    #[tactic(auto, using(crate::proofs::PartLemmas::cols_shrink), unfolding(crate::specs::Query::create_at, crate::specs::Lists::cols_at, crate::specs::Lists::col_defs_at, crate::specs::Reading::and_then))]
     fn create(&mut self, alloc: Global) -> Result<Query, DialectFail>
         ensures read { IfOk result (λ x. create_at self.old ≡ Ok (x, self.new)) }
         ensures stops { IfErr result (StopsAs (create_at self.old)) }
     {
         self.keyword(Keyword::Table)?;
         let table = self.name(alloc)?;
-        let cols = self.col_defs(alloc)?;
+        let cols = self.bracketed(alloc)?;
         Ok(Query::Create { table, cols })
     }
 
     /// The names of an insert's columns, if they stand.
-    #[tactic(auto, unfolding(crate::specs::Query::some_names_at, crate::specs::Reading::and_then))]
+    #[tactic(auto, using(crate::proofs::PartLemmas::names_shrink), unfolding(crate::specs::Query::some_names_at, crate::specs::Lists::name_list_at, crate::specs::Lists::names_at, crate::specs::Reading::and_then))]
     fn some_names(&mut self, alloc: Global) -> Result<Option<NameList>, DialectFail>
         ensures read { IfOk result (λ x. some_names_at self.old ≡ Ok (x, self.new)) }
         ensures stops { IfErr result (StopsAs (some_names_at self.old)) }
@@ -54,12 +54,12 @@ impl<'a> Reader<'a> {
         if !self.is_sign(b'(') {
             return Ok(None);
         }
-        let names = self.names(alloc)?;
+        let names = self.bracketed(alloc)?;
         Ok(Some(names))
     }
 
     /// What follows `INSERT`.
-    #[tactic(auto, unfolding(crate::specs::Query::insert_at, crate::specs::Reading::and_then))]
+    #[tactic(auto, using(crate::proofs::PartLemmas::tuples_shrink), unfolding(crate::specs::Query::insert_at, crate::specs::Lists::tuples_at, crate::specs::Reading::and_then))]
     fn insert(&mut self, alloc: Global) -> Result<Query, DialectFail>
         ensures read { IfOk result (λ x. insert_at self.old ≡ Ok (x, self.new)) }
         ensures stops { IfErr result (StopsAs (insert_at self.old)) }
@@ -68,7 +68,7 @@ impl<'a> Reader<'a> {
         let table = self.name(alloc)?;
         let names = self.some_names(alloc)?;
         self.keyword(Keyword::Values)?;
-        let tuples = self.tuples(alloc)?;
+        let tuples = self.separated(alloc)?;
         Ok(Query::Insert {
             table,
             names,
@@ -108,12 +108,12 @@ impl<'a> Reader<'a> {
     }
 
     /// A list of what is shown, and `FROM` if it stands.
-    #[tactic(auto, unfolding(crate::specs::Query::list_at, crate::specs::Reading::and_then))]
+    #[tactic(auto, using(crate::proofs::PartLemmas::items_shrink), unfolding(crate::specs::Query::list_at, crate::specs::Lists::items_at, crate::specs::Reading::and_then))]
     fn list(&mut self, alloc: Global) -> Result<Query, DialectFail>
         ensures read { IfOk result (λ x. list_at self.old ≡ Ok (x, self.new)) }
         ensures stops { IfErr result (StopsAs (list_at self.old)) }
     {
-        let items = self.items(alloc)?;
+        let items = self.separated(alloc)?;
         if self.is_keyword(Keyword::From) {
             return self.from(alloc, Shown::List(items));
         }
@@ -141,14 +141,14 @@ impl<'a> Reader<'a> {
     }
 
     /// What follows `UPDATE`.
-    #[tactic(auto, unfolding(crate::specs::Query::update_at, crate::specs::Reading::and_then))]
+    #[tactic(auto, using(crate::proofs::PartLemmas::sets_shrink), unfolding(crate::specs::Query::update_at, crate::specs::Lists::sets_at, crate::specs::Reading::and_then))]
     fn update(&mut self, alloc: Global) -> Result<Query, DialectFail>
         ensures read { IfOk result (λ x. update_at self.old ≡ Ok (x, self.new)) }
         ensures stops { IfErr result (StopsAs (update_at self.old)) }
     {
         let table = self.name(alloc)?;
         self.keyword(Keyword::Set)?;
-        let sets = self.sets(alloc)?;
+        let sets = self.separated(alloc)?;
         let filter = self.filter(alloc)?;
         Ok(Query::Update {
             table,
@@ -197,6 +197,17 @@ impl<'a> Reader<'a> {
         }
     }
 
+    /// What was read, if the text ends behind it.
+    fn ended<T: Drop>(&self, read: T) -> Result<T, DialectFail>
+        ensures read { IfOk result (λ x. (x ≡ read) × (is_end (symbol_at self.now) ≡ true)) }
+        ensures stops { IfErr result (λ e. (e ≡ DialectFail.Syntax (place_at self.now)) × (is_end (symbol_at self.now) ≡ false)) }
+    {
+        if !is_end(self.symbol()) {
+            return Err(self.stop());
+        }
+        Ok(read)
+    }
+
     /// A statement behind which the text ends.
     #[tactic(auto, unfolding(crate::specs::Query::whole_at, crate::specs::Reading::and_then))]
     pub(crate) fn whole(&mut self, alloc: Global) -> Result<Query, DialectFail>
@@ -204,9 +215,6 @@ impl<'a> Reader<'a> {
         ensures stops { IfErr result (StopsAs (whole_at self.old)) }
     {
         let query = self.statement(alloc)?;
-        if !is_end(self.symbol()) {
-            return Err(self.stop());
-        }
-        Ok(query)
+        self.ended(query)
     }
 }

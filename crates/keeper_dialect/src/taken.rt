@@ -2,7 +2,7 @@
 ghost use Rattle.std.specs.Prelude.{◌≡◌, ℕ, List, Bool, false, not, ◌||◌, string_bytes, IfOk, OnOk};
 ghost use Rattle.std.specs.BTreeSet.{contains_text};
 ghost use Rattle.std.specs.Str.{bytes_eq};
-ghost use Rattle.keeper_dialect.specs.Lists.{is_same_name};
+ghost use Rattle.keeper_dialect.specs.Tokens.{is_same_name};
 ghost use Rattle.keeper_dialect.specs.Taken.{is_taken};
 
 use hrana_value::NoMemory;

@@ -1,14 +1,13 @@
 // Names, terms and expressions.
 ghost use Rattle.std.specs.Prelude.{◌≡◌, ◌+◌, ◌^◌, min, codes, IfOk, IfErr};
-ghost use Rattle.sql_text.specs.Class.{is_word};
 ghost use Rattle.sql_text.specs.Parameters.{digits_value};
 ghost use Rattle.keeper_dialect.specs.Reading.{symbol_at, text_at, StopsAs};
 ghost use Rattle.keeper_dialect.specs.Terms.{name_of, name_at, signed, number_of, number_at, is_text, digits_behind, word_term_at, other_term_of, other_term_at, unsigned_term_by, term_at, add_at, adds_at, expr_at, col_expr_at};
 
-use crate::names::{unquoted, without_quotes};
+use crate::names::{is_same_name, unquoted, without_quotes};
 use crate::query::{Add, Adds, ColExpr, DialectFail, Expr, Term};
 use crate::reader::Reader;
-use crate::tokens::{Keyword, Symbol, is_word};
+use crate::tokens::{Keyword, Symbol};
 use hex::FromHexError;
 use hrana_value::{Bytes, NoMemory, Txt};
 use std::alloc::Global;
@@ -130,7 +129,7 @@ impl<'a> Reader<'a> {
     {
         let word = self.text();
         self.step();
-        if is_word(word.as_bytes(), "X") {
+        if is_same_name(word, "X") {
             if let Some(bytes) = self.digits_behind(alloc)? {
                 self.step();
                 return Ok(Term::Blob(bytes));

@@ -2,16 +2,16 @@
 ghost use Rattle.std.specs.Prelude.{◌≡◌, ◌<◌, ◌≤◌, [], IfOk, length, slice_index, slice_range};
 ghost use Rattle.std.specs.Str.{IsCharBoundary};
 ghost use Rattle.sql_text.specs.Parameters.{views as parameter_views, AreApart};
-ghost use Rattle.sql_text.specs.Class.{is_word};
 ghost use Rattle.keeper_dialect.specs.Reading.{rank_of};
 ghost use Rattle.keeper_dialect.specs.Tokens.{early_keyword, late_keyword, or_keyword, keyword_or_word, symbol_of_word, symbol_of_run, symbol_of, seen_after, is_passed, token_of, tokens_of, end_token, view, views};
 
+use crate::names::is_same_name;
 use hrana_value::NoMemory;
 use sql_text::{Kind, Parameters, PlacedPiece, next_parameter, piece_at};
 use std::alloc::Global;
 
 /// The words that are reserved.
-#[derive(Clone, Copy, Debug, PartialEq, Eq)]
+#[derive(Clone, Copy)]
 pub(crate) enum Keyword {
     Count,
     Create,
@@ -55,7 +55,7 @@ impl Keyword {
 }
 
 /// What a token is.
-#[derive(Clone, Copy, Debug, PartialEq, Eq)]
+#[derive(Clone, Copy)]
 pub(crate) enum Symbol {
     Keyword(Keyword),
     /// A word that isn't reserved.
@@ -75,7 +75,7 @@ pub(crate) enum Symbol {
 }
 
 /// A piece that is neither blank nor comment, with the blanks and comments before it.
-#[derive(Clone, Copy, Debug)]
+#[derive(Clone, Copy)]
 pub(crate) struct Token<'a> {
     pub(crate) symbol: Symbol,
     pub(crate) before: &'a str,
@@ -84,31 +84,25 @@ pub(crate) struct Token<'a> {
     pub(crate) start: usize,
 }
 
-pub(crate) fn is_word(word: &[u8], name: &str) -> bool
-    ensures { result ≡ is_word word.now name.now }
-{
-    word.eq_ignore_ascii_case(name.as_bytes())
-}
-
 #[tactic(auto, unfolding(crate::specs::Tokens::early_keyword))]
-fn early_keyword(word: &[u8]) -> Option<Keyword>
+fn early_keyword(word: &str) -> Option<Keyword>
     ensures { result ≡ early_keyword word.now }
 {
-    if is_word(word, "COUNT") {
+    if is_same_name(word, "COUNT") {
         Some(Keyword::Count)
-    } else if is_word(word, "CREATE") {
+    } else if is_same_name(word, "CREATE") {
         Some(Keyword::Create)
-    } else if is_word(word, "DELETE") {
+    } else if is_same_name(word, "DELETE") {
         Some(Keyword::Delete)
-    } else if is_word(word, "FROM") {
+    } else if is_same_name(word, "FROM") {
         Some(Keyword::From)
-    } else if is_word(word, "INSERT") {
+    } else if is_same_name(word, "INSERT") {
         Some(Keyword::Insert)
-    } else if is_word(word, "INTO") {
+    } else if is_same_name(word, "INTO") {
         Some(Keyword::Into)
-    } else if is_word(word, "KEY") {
+    } else if is_same_name(word, "KEY") {
         Some(Keyword::Key)
-    } else if is_word(word, "NULL") {
+    } else if is_same_name(word, "NULL") {
         Some(Keyword::Null)
     } else {
         None
@@ -116,22 +110,22 @@ fn early_keyword(word: &[u8]) -> Option<Keyword>
 }
 
 #[tactic(auto, unfolding(crate::specs::Tokens::late_keyword))]
-fn late_keyword(word: &[u8]) -> Option<Keyword>
+fn late_keyword(word: &str) -> Option<Keyword>
     ensures { result ≡ late_keyword word.now }
 {
-    if is_word(word, "PRIMARY") {
+    if is_same_name(word, "PRIMARY") {
         Some(Keyword::Primary)
-    } else if is_word(word, "SELECT") {
+    } else if is_same_name(word, "SELECT") {
         Some(Keyword::Select)
-    } else if is_word(word, "SET") {
+    } else if is_same_name(word, "SET") {
         Some(Keyword::Set)
-    } else if is_word(word, "TABLE") {
+    } else if is_same_name(word, "TABLE") {
         Some(Keyword::Table)
-    } else if is_word(word, "UPDATE") {
+    } else if is_same_name(word, "UPDATE") {
         Some(Keyword::Update)
-    } else if is_word(word, "VALUES") {
+    } else if is_same_name(word, "VALUES") {
         Some(Keyword::Values)
-    } else if is_word(word, "WHERE") {
+    } else if is_same_name(word, "WHERE") {
         Some(Keyword::Where)
     } else {
         None
@@ -139,7 +133,7 @@ fn late_keyword(word: &[u8]) -> Option<Keyword>
 }
 
 /// A reserved word, or another.
-fn symbol_of_word(word: &[u8]) -> Symbol
+fn symbol_of_word(word: &str) -> Symbol
     ensures { result ≡ symbol_of_word word.now }
 {
     match early_keyword(word).or(late_keyword(word)) {
@@ -162,20 +156,20 @@ fn symbol_of_run(quote: u8) -> Symbol
 }
 
 /// What a piece is. A parameter takes its number.
-fn symbol_of<'a>(seen: &mut Parameters<'a>, kind: Kind, bytes: &'a [u8]) -> Symbol
+fn symbol_of<'a>(seen: &mut Parameters<'a>, kind: Kind, text: &'a str) -> Symbol
     requires apart { AreApart (parameter_views seen.old.items) }
-    requires some { 0 < length bytes.now }
+    requires some { 0 < length text.now }
     ensures apart { AreApart (parameter_views seen.new.items) }
-    ensures symbol { result ≡ symbol_of (parameter_views seen.old.items) kind bytes.now }
-    ensures seen { parameter_views seen.new.items ≡ seen_after (parameter_views seen.old.items) kind bytes.now }
+    ensures symbol { result ≡ symbol_of (parameter_views seen.old.items) kind text.now }
+    ensures seen { parameter_views seen.new.items ≡ seen_after (parameter_views seen.old.items) kind text.now }
 {
     match kind {
-        Kind::Quoted => symbol_of_run(bytes[0]),
-        Kind::Parameter => match next_parameter(seen, bytes) {
+        Kind::Quoted => symbol_of_run(text.as_bytes()[0]),
+        Kind::Parameter => match next_parameter(seen, text.as_bytes()) {
             Some(number) => Symbol::Parameter(number),
             None => Symbol::Stray,
         },
-        Kind::Word => symbol_of_word(bytes),
+        Kind::Word => symbol_of_word(text),
         Kind::Number => Symbol::Number,
         Kind::Sign(sign) => Symbol::Sign(sign),
         Kind::Blank | Kind::Comment | Kind::Unclosed => Symbol::Stray,
@@ -212,7 +206,7 @@ fn token_of<'a>(
 {
     let text = &sql[at..piece.end];
     Token {
-        symbol: symbol_of(seen, piece.kind, text.as_bytes()),
+        symbol: symbol_of(seen, piece.kind, text),
         before: &sql[from..at],
         text,
         start: at,

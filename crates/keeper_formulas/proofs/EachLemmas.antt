@@ -58,9 +58,6 @@ pub map_ok-Ok : {A B : Type 0} (g : A → B) (r : Result A Refusal) (y : B) → 
 map_ok-Ok g (Ok x) y p = (x, refl, cc)
 map_ok-Ok g (Err refusal) y p = absurd (cc)
 
-pub and_then-Ok : {A B : Type 0} (r : Result A Refusal) (f : A → Result B Refusal) (x : A) (s : Result B Refusal) → r ≡ Ok x → f x ≡ s → and_then r f ≡ s
-and_then-Ok r f x s p q = ap (λ r. and_then r f) p ∙ q
-
 pub and_then-Err : {A B : Type 0} (r : Result A Refusal) (f : A → Result B Refusal) (refusal : Refusal) → r ≡ Err refusal → and_then r f ≡ Err refusal
 and_then-Err r f refusal p = ap (λ r. and_then r f) p
 
@@ -77,10 +74,6 @@ refuses_each f xs i x ys NoMemory done h is p = tt
 -- the same of a call that wants no memory
 pub result_refused : {A : Type 0} (meant r : Result A Refusal) (refusal : Refusal) → IsErrAnd r (λ e. e ≡ refusal) → meant ≡ Err refusal → r ≡ meant
 result_refused meant r refusal p h = let q = err_from_is_err_and r p in q.1 ∙ ap (λ e. Err e) q.2 ∙ sym h
-
--- and where it is a refusal by its refusal
-pub gives_refusal : {A : Type 0} (meant : Result A Refusal) (r : Result A Fail) (refusal : Refusal) → IsErrAnd r (λ e. e ≡ Refused refusal) → meant ≡ Err refusal → Gives meant r
-gives_refusal meant r refusal p h = gives_refused meant r (Refused refusal) p h
 
 -- the exit of a `?` under a clause on errors alone
 pub err_refused : {T A : Type 0} (meant : Result A Refusal) (r : Result T Fail) (fail : Fail) → IsErrAnd r (λ e. e ≡ fail) → Refuses meant fail → IfErr r (Refuses meant)

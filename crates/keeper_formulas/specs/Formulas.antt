@@ -1,7 +1,6 @@
 -- Expressions whose names and parameters are resolved, and their values on a row.
 use Rattle.std.specs.Prelude.{ℕ, ◌-◌, Bool, true, false, ◌&&◌, List, [], ◌∷◌, Option, Some, None, Result, Ok, Err, slice_set}
 use Rattle.std.specs.List.{position, list_all}
-use Rattle.std.specs.Str.{str_eq_ignore_ascii_case}
 use Rattle.hrana_value.specs.declared.value.Value.{Value}
 use Rattle.hrana_value.specs.declared.value.Value.TheVariants as value
 use Rattle.keeper_formulas.specs.declared.fail.Refusal.{Refusal}
@@ -11,6 +10,7 @@ use Rattle.keeper_dialect.specs.declared.query.Term.TheVariants.{Number, Text, B
 use Rattle.keeper_dialect.specs.declared.query.Add.{Add}
 use Rattle.keeper_dialect.specs.declared.query.Expr.{Expr}
 use Rattle.keeper_dialect.specs.declared.query.ColExpr.{ColExpr}
+use Rattle.keeper_dialect.specs.Tokens.{is_same_name}
 use Rattle.keeper_formulas.specs.declared.formulas.Operand.{Operand}
 use Rattle.keeper_formulas.specs.declared.formulas.Operand.TheVariants.{Constant, Column}
 use Rattle.keeper_formulas.specs.declared.formulas.Addend.{Addend}
@@ -21,7 +21,7 @@ use Rattle.keeper_formulas.specs.Values.{value_at, sum_of, is_equal}
 
 -- the place of a name among the columns; names compare without regard to ASCII case
 abbrev pub place_of : List (List ℕ) → List ℕ → Option ℕ
-place_of columns name = position (λ column. str_eq_ignore_ascii_case column name) columns
+place_of columns name = position (λ column. is_same_name column name) columns
 
 abbrev pub known : {A : Type 0} → Option A → Result A Refusal
 known None = Err NoColumn

@@ -18,9 +18,7 @@ value_at values place = value_or_null (slice_get values place)
 
 abbrev pub is_null : Value → Bool
 is_null Null = true
-is_null (Integer number) = false
-is_null (Text text) = false
-is_null (Blob bytes) = false
+is_null _ = false
 
 -- Two values are equal where both are of one kind and the same. Null equals nothing.
 abbrev pub is_equal : Value → Value → Bool

@@ -1,5 +1,5 @@
 // Expressions whose names and parameters are resolved, and their values on a row.
-ghost use Rattle.std.specs.Prelude.{◌≡◌, [], ◌∷◌, ◌++◌, length, OnOk, OnErr, IfOk, IfSome, IfNone};
+ghost use Rattle.std.specs.Prelude.{◌≡◌, [], ◌∷◌, length, IfOk, IfSome, IfNone};
 ghost use Rattle.std.specs.List.{list_all};
 ghost use Rattle.std.specs.Option.{option_copied};
 ghost use Rattle.keeper_formulas.specs.Each.{Gives, map_ok};
@@ -8,9 +8,8 @@ ghost use Rattle.keeper_formulas.specs.Formulas.{is_constant, names_no_column, o
 
 use crate::fail::{Fail, Refusal};
 use crate::values::{copy_or_null, is_equal, sum_of};
-use hrana_value::{NoMemory, Value};
+use hrana_value::{List, NoMemory, Value};
 use std::alloc::Global;
-use std::marker::Model;
 
 /// What a term stands for: one value on all rows, or the value of the column at a place.
 #[derive(Debug, Drop)]
@@ -25,6 +24,15 @@ pub struct Addend {
     pub minus: bool,
     pub operand: Operand,
 }
+
+/// What is added to an operand.
+pub type Addends = List<Addend>;
+
+/// Expressions.
+pub type Formulas = List<Formula>;
+
+/// Places with expressions.
+pub type Equations = List<Equation>;
 
 /// An expression: an operand, and what is added to it from the left.
 #[derive(Debug, Drop)]
@@ -46,132 +54,6 @@ pub enum Picture {
     List(Formulas),
     All,
     Count,
-}
-
-/// What is added to an operand. It keeps the allocator that `new` takes.
-#[derive(Debug, Drop)]
-pub struct Addends {
-    items: Vec<Addend>,
-}
-
-impl Model for Addends {
-    ghost use Rattle.std.specs.Prelude.{List};
-    ghost use Rattle.keeper_formulas.specs.declared.formulas.Addend.{Addend};
-
-    ghost Value = { List Addend };
-
-    ghost view = { λ list. list.items.items };
-}
-
-impl Addends {
-    pub fn new(alloc: Global) -> Addends
-        ensures { result ≡ [] }
-    {
-        Addends {
-            items: Vec::new(alloc),
-        }
-    }
-
-    /// Adds one at the end. What is refused is dropped.
-    pub fn push(&mut self, item: Addend) -> Result<(), NoMemory>
-        ensures ok { OnOk result (self.new ≡ self.old ++ item ∷ []) }
-        ensures err { OnErr result (self.new ≡ self.old) }
-    {
-        match self.items.push(item) {
-            Ok(()) => Ok(()),
-            Err(_) => Err(NoMemory),
-        }
-    }
-
-    pub fn as_slice(&self) -> &[Addend]
-        ensures { result.now ≡ self.now }
-    {
-        self.items.as_slice()
-    }
-}
-
-/// Expressions. It keeps the allocator that `new` takes.
-#[derive(Debug, Drop)]
-pub struct Formulas {
-    items: Vec<Formula>,
-}
-
-impl Model for Formulas {
-    ghost use Rattle.std.specs.Prelude.{List};
-    ghost use Rattle.keeper_formulas.specs.declared.formulas.Formula.{Formula};
-
-    ghost Value = { List Formula };
-
-    ghost view = { λ list. list.items.items };
-}
-
-impl Formulas {
-    pub fn new(alloc: Global) -> Formulas
-        ensures { result ≡ [] }
-    {
-        Formulas {
-            items: Vec::new(alloc),
-        }
-    }
-
-    /// Adds one at the end. What is refused is dropped.
-    pub fn push(&mut self, item: Formula) -> Result<(), NoMemory>
-        ensures ok { OnOk result (self.new ≡ self.old ++ item ∷ []) }
-        ensures err { OnErr result (self.new ≡ self.old) }
-    {
-        match self.items.push(item) {
-            Ok(()) => Ok(()),
-            Err(_) => Err(NoMemory),
-        }
-    }
-
-    pub fn as_slice(&self) -> &[Formula]
-        ensures { result.now ≡ self.now }
-    {
-        self.items.as_slice()
-    }
-}
-
-/// Places with expressions. It keeps the allocator that `new` takes.
-#[derive(Debug, Drop)]
-pub struct Equations {
-    items: Vec<Equation>,
-}
-
-impl Model for Equations {
-    ghost use Rattle.std.specs.Prelude.{List};
-    ghost use Rattle.keeper_formulas.specs.declared.formulas.Equation.{Equation};
-
-    ghost Value = { List Equation };
-
-    ghost view = { λ list. list.items.items };
-}
-
-impl Equations {
-    pub fn new(alloc: Global) -> Equations
-        ensures { result ≡ [] }
-    {
-        Equations {
-            items: Vec::new(alloc),
-        }
-    }
-
-    /// Adds one at the end. What is refused is dropped.
-    pub fn push(&mut self, item: Equation) -> Result<(), NoMemory>
-        ensures ok { OnOk result (self.new ≡ self.old ++ item ∷ []) }
-        ensures err { OnErr result (self.new ≡ self.old) }
-    {
-        match self.items.push(item) {
-            Ok(()) => Ok(()),
-            Err(_) => Err(NoMemory),
-        }
-    }
-
-    pub fn as_slice(&self) -> &[Equation]
-        ensures { result.now ≡ self.now }
-    {
-        self.items.as_slice()
-    }
 }
 
 /// The value at a place, if there is one.

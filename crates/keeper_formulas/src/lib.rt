@@ -11,5 +11,5 @@ pub use formulas::{
     Addend, Addends, Equation, Equations, Formula, Formulas, Operand, Picture, are_equal,
     constant_sum, formula_value, is_met, names_no_column, value_at,
 };
-pub use resolve::{condition_of, equations_of, formula_of, is_same_name, place_of};
+pub use resolve::{Resolve, condition_of, place_of, resolve_each};
 pub use values::{copy_or_null, is_equal, is_null};

@@ -1,23 +1,17 @@
 // Names become places, parameters values.
-ghost use Rattle.std.specs.Prelude.{◌≡◌, ◌-◌, IfOk};
-ghost use Rattle.std.specs.Str.{str_eq_ignore_ascii_case};
+ghost use Rattle.std.specs.Prelude.{◌≡◌, ◌-◌, ℕ, List as Seq, Result, IfOk};
+ghost use Rattle.hrana_value.specs.declared.value.Value.{Value as SqlValue};
+ghost use Rattle.keeper_formulas.specs.declared.fail.Refusal.{Refusal};
 ghost use Rattle.keeper_formulas.specs.Each.{Gives, each};
 ghost use Rattle.keeper_formulas.specs.Values.{value_at};
 ghost use Rattle.keeper_formulas.specs.Formulas.{place_of, known, operand_of, addend_of, formula_of, equation_of, condition_of};
 
 use crate::fail::{Fail, Refusal};
-use crate::formulas::{Addend, Addends, Equation, Equations, Formula, Operand};
+use crate::formulas::{Addend, Equation, Formula, Operand};
 use crate::values::copy_or_null;
-use hrana_value::{NoMemory, Txt, Value};
-use keeper_dialect::{Add, ColExpr, Expr, Term};
+use hrana_value::{List, NoMemory, Txt, Value};
+use keeper_dialect::{Add, ColExpr, Expr, Item, Term, is_same_name};
 use std::alloc::Global;
-
-/// Names compare without regard to ASCII case.
-pub fn is_same_name(left: &str, right: &str) -> bool
-    ensures { result ≡ str_eq_ignore_ascii_case left.now right.now }
-{
-    left.eq_ignore_ascii_case(right)
-}
 
 fn place_among(columns: &[Txt], name: &str) -> Option<usize>
     ensures { result ≡ place_of columns.now name.now }
@@ -56,70 +50,88 @@ fn operand_of(alloc: Global, columns: &[Txt], bound: &[Value], term: &Term) -> R
     }
 }
 
-fn addend_of(alloc: Global, columns: &[Txt], bound: &[Value], add: &Add) -> Result<Addend, Fail>
-    ensures { Gives (addend_of columns.now bound.now add.now) result }
-{
-    let operand = operand_of(alloc, columns, bound, &add.term)?;
-    Ok(Addend {
-        minus: add.minus,
-        operand,
-    })
+/// What stands for a part of a query once names are places of columns and parameters values.
+pub trait Resolve<Source>: Drop {
+    ghost meant: { Seq (Seq ℕ) → Seq SqlValue → Source → Result Self Refusal };
+
+    fn resolve(
+        alloc: Global,
+        columns: &[Txt],
+        bound: &[Value],
+        source: &Source,
+    ) -> Result<Self, Fail>
+        ensures { Gives (meant columns.now bound.now source.now) result };
 }
 
-fn addends_of(
+/// What stands for each of some parts, or the first refusal.
+pub fn resolve_each<Source, T: Resolve<Source>>(
     alloc: Global,
     columns: &[Txt],
     bound: &[Value],
-    adds: &[Add],
-) -> Result<Addends, Fail>
-    ensures { Gives (each (addend_of columns.now bound.now) adds.now) result }
+    sources: &[Source],
+) -> Result<List<T>, Fail>
+    ensures { Gives (each (T.meant columns.now bound.now) sources.now) result }
 {
-    let mut addends = Addends::new(alloc);
-    for add in adds {
-        addends.push(addend_of(alloc, columns, bound, add)?)?;
+    let mut resolved = List::new(alloc);
+    for source in sources {
+        resolved.push(T::resolve(alloc, columns, bound, source)?)?;
     }
-    Ok(addends)
+    Ok(resolved)
 }
 
-pub fn formula_of(
-    alloc: Global,
-    columns: &[Txt],
-    bound: &[Value],
-    expr: &Expr,
-) -> Result<Formula, Fail>
-    ensures { Gives (formula_of columns.now bound.now expr.now) result }
-{
-    let first = operand_of(alloc, columns, bound, &expr.first)?;
-    let rest = addends_of(alloc, columns, bound, expr.rest.as_slice())?;
-    Ok(Formula { first, rest })
-}
+impl Resolve<Add> for Addend {
+    ghost meant = { addend_of };
 
-pub fn equation_of(
-    alloc: Global,
-    columns: &[Txt],
-    bound: &[Value],
-    set: &ColExpr,
-) -> Result<Equation, Fail>
-    ensures { Gives (equation_of columns.now bound.now set.now) result }
-{
-    let place = place_of(columns, set.column.as_str())?;
-    let formula = formula_of(alloc, columns, bound, &set.expr)?;
-    Ok(Equation { place, formula })
-}
-
-pub fn equations_of(
-    alloc: Global,
-    columns: &[Txt],
-    bound: &[Value],
-    sets: &[ColExpr],
-) -> Result<Equations, Fail>
-    ensures { Gives (each (equation_of columns.now bound.now) sets.now) result }
-{
-    let mut equations = Equations::new(alloc);
-    for set in sets {
-        equations.push(equation_of(alloc, columns, bound, set)?)?;
+    fn resolve(alloc: Global, columns: &[Txt], bound: &[Value], add: &Add) -> Result<Addend, Fail> {
+        let operand = operand_of(alloc, columns, bound, &add.term)?;
+        Ok(Addend {
+            minus: add.minus,
+            operand,
+        })
     }
-    Ok(equations)
+}
+
+impl Resolve<Expr> for Formula {
+    ghost meant = { formula_of };
+
+    fn resolve(
+        alloc: Global,
+        columns: &[Txt],
+        bound: &[Value],
+        expr: &Expr,
+    ) -> Result<Formula, Fail> {
+        let first = operand_of(alloc, columns, bound, &expr.first)?;
+        let rest = resolve_each(alloc, columns, bound, expr.rest.as_slice())?;
+        Ok(Formula { first, rest })
+    }
+}
+
+impl Resolve<Item> for Formula {
+    ghost meant = { λ columns bound item. formula_of columns bound item.expr };
+
+    fn resolve(
+        alloc: Global,
+        columns: &[Txt],
+        bound: &[Value],
+        item: &Item,
+    ) -> Result<Formula, Fail> {
+        Formula::resolve(alloc, columns, bound, &item.expr)
+    }
+}
+
+impl Resolve<ColExpr> for Equation {
+    ghost meant = { equation_of };
+
+    fn resolve(
+        alloc: Global,
+        columns: &[Txt],
+        bound: &[Value],
+        set: &ColExpr,
+    ) -> Result<Equation, Fail> {
+        let place = place_of(columns, set.column.as_str())?;
+        let formula = Formula::resolve(alloc, columns, bound, &set.expr)?;
+        Ok(Equation { place, formula })
+    }
 }
 
 pub fn condition_of(
@@ -132,6 +144,6 @@ pub fn condition_of(
 {
     match filter {
         None => Ok(None),
-        Some(filter) => Ok(Some(equation_of(alloc, columns, bound, filter)?)),
+        Some(filter) => Ok(Some(Equation::resolve(alloc, columns, bound, filter)?)),
     }
 }

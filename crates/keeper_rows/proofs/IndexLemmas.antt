@@ -8,7 +8,7 @@ use Rattle.hrana_value.specs.declared.value.Value.TheVariants.{Null}
 use Rattle.keeper_formulas.specs.Values.{value_at, is_null, is_equal}
 use Rattle.keeper_rows.specs.declared.keys.KeyIndex.{KeyIndex}
 use Rattle.keeper_rows.specs.declared.row.Row.{Row}
-use Rattle.keeper_rows.specs.declared.spans.Span.{Span}
+use Rattle.keeper_rows.specs.declared.spans.PlaceSpan.{PlaceSpan}
 use Rattle.keeper_rows.specs.Constraint.{has_key, keeps_key}
 use Rattle.keeper_rows.specs.Keys.{rowid_of_key, keys_of, keys_at, HasKeys, Indexes}
 use Rattle.keeper_rows.specs.Spans.{Encloses}
@@ -131,7 +131,7 @@ has_rows index column rows has key =
     (cases_Bool (is_some (rowid_of_key index key)))
 
 -- no row has a key that the index doesn't have
-pub encloses_none : (index : KeyIndex) (column : ℕ) (rows : List Row) (key : Value) (span : Span) → HasKeys index (keys_at column rows) → is_some (rowid_of_key index key) ≡ false → span.from ≡ 0 → span.to ≡ 0 → Encloses (λ row. is_equal (value_at row.values column) key) span rows
+pub encloses_none : (index : KeyIndex) (column : ℕ) (rows : List Row) (key : Value) (span : PlaceSpan) → HasKeys index (keys_at column rows) → is_some (rowid_of_key index key) ≡ false → span.from ≡ 0 → span.to ≡ 0 → Encloses (λ row. is_equal (value_at row.values column) key) span rows
 encloses_none index column rows key span has none from to =
     let test = λ (row : Row). is_equal (value_at row.values column) key in
     record {
@@ -142,7 +142,7 @@ encloses_none index column rows key span has none from to =
     }
 
 -- a row that has the key is the only one
-pub encloses_one : (index : KeyIndex) (column : ℕ) (rows : List Row) (key : Value) (p : ℕ) (span : Span) → HasKeys index (keys_at column rows) → is_equal (keys_at column rows p) key ≡ true → span.from ≡ p → span.to ≡ p + 1 → Encloses (λ row. is_equal (value_at row.values column) key) span rows
+pub encloses_one : (index : KeyIndex) (column : ℕ) (rows : List Row) (key : Value) (p : ℕ) (span : PlaceSpan) → HasKeys index (keys_at column rows) → is_equal (keys_at column rows p) key ≡ true → span.from ≡ p → span.to ≡ p + 1 → Encloses (λ row. is_equal (value_at row.values column) key) span rows
 encloses_one index column rows key p span has here from to =
     let test = λ (row : Row). is_equal (value_at row.values column) key in
     let keys = keys_of column rows in

@@ -16,7 +16,7 @@ use Rattle.hrana_value.specs.declared.value.Value.{Value}
 use Rattle.keeper_rows.specs.Keys.{keys_of, keys_at}
 use Rattle.keeper_formulas.specs.Values.{value_at, is_null, is_equal}
 use Rattle.keeper_rows.specs.declared.row.Row.{Row}
-use Rattle.keeper_rows.specs.declared.spans.Span.{Span}
+use Rattle.keeper_rows.specs.declared.spans.PlaceSpan.{PlaceSpan}
 use Rattle.keeper_rows.specs.Spans.{replaced}
 use Rattle.keeper_rows.specs.Constraint.{has_key, breaks_key, keeps_key}
 
@@ -198,7 +198,7 @@ rows_between rows from to h k =
     ∙ ap (λ l. take from rows ++ l) (sym (take-append-drop (to - from) (drop from rows)) ∙ ap (λ l. take (to - from) (drop from rows) ++ l) (drop-drop (to - from) from rows ∙ ap (λ n. drop n rows) e))
     ∙ sym (append_assoc (take from rows) (take (to - from) (drop from rows)) (drop to rows))
 
-pub exchanged_back : (rows news back : List Row) (span : Span) → span.from ≤ span.to → span.to ≤ length rows → span.from + length news ≡ span.to → back ≡ slice_range rows span.from span.to → replaced (replaced rows span news) span back ≡ rows
+pub exchanged_back : (rows news back : List Row) (span : PlaceSpan) → span.from ≤ span.to → span.to ≤ length rows → span.from + length news ≡ span.to → back ≡ slice_range rows span.from span.to → replaced (replaced rows span news) span back ≡ rows
 exchanged_back rows news back span ordered within as_many is =
     let ahead = length-take-le span.from rows (omega (arith, ordered, within)) in
     let front = length-append (take span.from rows) news in

@@ -9,7 +9,7 @@ use Rattle.keeper_formulas.specs.declared.formulas.Equation.{Equation}
 use Rattle.keeper_formulas.specs.Values.{is_null, is_equal}
 use Rattle.keeper_rows.specs.declared.keys.KeyIndex.{KeyIndex}
 use Rattle.keeper_rows.specs.declared.row.Row.{Row}
-use Rattle.keeper_rows.specs.declared.spans.Span.{Span}
+use Rattle.keeper_rows.specs.declared.spans.PlaceSpan.{PlaceSpan}
 use Rattle.keeper_rows.specs.Chosen.{is_ok_true, stays}
 use Rattle.keeper_rows.specs.Constraint.{keeps_key}
 use Rattle.keeper_rows.specs.Keys.{rowid_of_key, keys_of, keys_at, HasKeys, Indexes, Leaves, changed_up_to}
@@ -186,7 +186,7 @@ same_either : (b : Bool) → cond b Null Null ≡ Null
 same_either true = refl
 same_either false = refl
 
-pub leaves_rows : (condition : Option Equation) (column : ℕ) (rows some : List Row) (span : Span) → Spans condition span rows → rows ≡ take span.from rows ++ some ++ drop span.to rows → span.from + length some ≡ span.to → Leaves condition column span.from some (keys_at column rows) (left_keys column (stays condition) rows)
+pub leaves_rows : (condition : Option Equation) (column : ℕ) (rows some : List Row) (span : PlaceSpan) → Spans condition span rows → rows ≡ take span.from rows ++ some ++ drop span.to rows → span.from + length some ≡ span.to → Leaves condition column span.from some (keys_at column rows) (left_keys column (stays condition) rows)
 unfolding left_keys
 leaves_rows condition column rows some span spans whole many = record {
   ahead = λ p less.

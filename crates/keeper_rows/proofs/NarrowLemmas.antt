@@ -17,7 +17,7 @@ use Rattle.keeper_formulas.specs.Formulas.{names_no_column, formula_value}
 use Rattle.keeper_formulas.specs.Values.{value_at, is_equal}
 use Rattle.keeper_formulas.proofs.FormulaLemmas.{constant_formula}
 use Rattle.keeper_rows.specs.declared.row.Row.{Row}
-use Rattle.keeper_rows.specs.declared.spans.Span.{Span}
+use Rattle.keeper_rows.specs.declared.spans.PlaceSpan.{PlaceSpan}
 use Rattle.keeper_rows.specs.Spans.{Encloses, is_ok_false, is_passed, Spans}
 use Rattle.keeper_rows.specs.Chosen.{is_chosen, on_chosen, shown_values, row_shown, chosen_rows, chosen_count, shown_rows, is_ok_true, stays}
 use Rattle.keeper_rows.proofs.KeyLemmas.{neither}
@@ -122,7 +122,7 @@ passed_stay condition (row ∷ rows) p =
     ap (λ r. cond (not (is_ok_true r)) (row ∷ filter (stays condition) rows) (filter (stays condition) rows)) (passed condition row q.0) ∙ ap (λ l. row ∷ l) (passed_stay condition rows q.1)
 
 -- what is left of rows of which one alone may be chosen
-pub only_removed : (condition : Option Equation) (rows : List Row) (span : Span) (row : Row) → Spans condition span rows → span.from + 1 ≡ span.to → row ≡ get_or rows span.from row → filter (stays condition) rows ≡ take span.from rows ++ cond (stays condition row) (row ∷ drop (span.from + 1) rows) (drop (span.from + 1) rows)
+pub only_removed : (condition : Option Equation) (rows : List Row) (span : PlaceSpan) (row : Row) → Spans condition span rows → span.from + 1 ≡ span.to → row ≡ get_or rows span.from row → filter (stays condition) rows ≡ take span.from rows ++ cond (stays condition row) (row ∷ drop (span.from + 1) rows) (drop (span.from + 1) rows)
 only_removed condition rows span row spans one is =
     let test = stays condition in
     let from = span.from in
@@ -142,7 +142,7 @@ passes_unmet condition test chosen (row ∷ rows) p =
     let q = neither (test row) (list_any test rows) p in
     ap (λ r. is_ok_false r && list_all (is_passed condition) rows) (chosen row ∙ ap (λ b. Ok b) q.0) ∙ passes_unmet condition test chosen rows q.1
 
-pub spans_by_test : (condition : Option Equation) (test : Row → Bool) (span : Span) (rows : List Row) → ((row : Row) → is_chosen condition row ≡ Ok (test row)) → Encloses test span rows → Spans condition span rows
+pub spans_by_test : (condition : Option Equation) (test : Row → Bool) (span : PlaceSpan) (rows : List Row) → ((row : Row) → is_chosen condition row ≡ Ok (test row)) → Encloses test span rows → Spans condition span rows
 spans_by_test condition test span rows chosen encloses = record {
   ordered = encloses.ordered;
   within = encloses.within;

@@ -7,7 +7,7 @@ use Rattle.hrana_value.specs.declared.value.Value.TheVariants.{Null}
 use Rattle.keeper_formulas.specs.Values.{is_null, is_equal}
 use Rattle.keeper_rows.specs.declared.keys.KeyIndex.{KeyIndex}
 use Rattle.keeper_rows.specs.declared.row.Row.{Row}
-use Rattle.keeper_rows.specs.declared.spans.Span.{Span}
+use Rattle.keeper_rows.specs.declared.spans.PlaceSpan.{PlaceSpan}
 use Rattle.keeper_rows.specs.Constraint.{keeps_key}
 use Rattle.keeper_rows.specs.Keys.{rowid_of_key, keys_at, HasKeys, Indexes, stay, Moves, changed_up_to}
 use Rattle.keeper_rows.specs.Spans.{replaced}
@@ -317,12 +317,12 @@ broken_when_stopped index column p others old within differs reason has = not_tr
 
 -- ---- the rows of a table
 
-pub moves_replaced : (column : ℕ) (rows olds news : List Row) (span : Span) → rows ≡ take span.from rows ++ olds ++ drop span.to rows → span.from + length olds ≡ span.to → span.from + length news ≡ span.to → span.to ≤ length rows → Moves column span.from olds news (keys_at column rows) (keys_at column (replaced rows span news))
+pub moves_replaced : (column : ℕ) (rows olds news : List Row) (span : PlaceSpan) → rows ≡ take span.from rows ++ olds ++ drop span.to rows → span.from + length olds ≡ span.to → span.from + length news ≡ span.to → span.to ≤ length rows → Moves column span.from olds news (keys_at column rows) (keys_at column (replaced rows span news))
 moves_replaced column rows olds news span whole many as_many within =
     subst (λ (l : List Row). Moves column span.from olds news (keys_at column l) (keys_at column (replaced rows span news))) (sym whole)
     (moves_between column span.from (take span.from rows) olds news (drop span.to rows) (length-take-le span.from rows (omega (arith, many, within))) (omega (arith, many, as_many)))
 
-pub replaced_long : (rows news : List Row) (span : Span) → span.from + length news ≡ span.to → span.to ≤ length rows → length (replaced rows span news) ≡ length rows
+pub replaced_long : (rows news : List Row) (span : PlaceSpan) → span.from + length news ≡ span.to → span.to ≤ length rows → length (replaced rows span news) ≡ length rows
 replaced_long rows news span as_many within =
     let ahead = length-take-le span.from rows (omega (arith, as_many, within)) in
     let front = length-append (take span.from rows) news in

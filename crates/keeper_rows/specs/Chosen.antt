@@ -49,5 +49,4 @@ chosen_rows picture condition rows = map_ok somes (each (row_shown picture condi
 
 abbrev pub shown_rows : Picture → Option Equation → List Row → Result (List (List Value)) Refusal
 shown_rows picture.Count condition rows = map_ok (λ count. (Integer (pos count) ∷ []) ∷ []) (chosen_count condition rows)
-shown_rows picture.All condition rows = chosen_rows picture.All condition rows
-shown_rows (picture.List formulas) condition rows = chosen_rows (picture.List formulas) condition rows
+shown_rows shown condition rows = chosen_rows shown condition rows

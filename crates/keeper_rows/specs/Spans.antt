@@ -3,12 +3,12 @@ use Rattle.std.specs.Prelude.{◌≡◌, ◌≤◌, Bool, true, false, not, List
 use Rattle.std.specs.List.{list_any, list_all}
 use Rattle.keeper_formulas.specs.declared.fail.Refusal.{Refusal}
 use Rattle.keeper_formulas.specs.declared.formulas.Equation.{Equation}
-use Rattle.keeper_rows.specs.declared.spans.Span.{Span}
+use Rattle.keeper_rows.specs.declared.spans.PlaceSpan.{PlaceSpan}
 use Rattle.keeper_rows.specs.declared.row.Row.{Row}
 use Rattle.keeper_rows.specs.Chosen.{is_chosen}
 
 -- the places are those of rows, and no row at another place passes the test
-pub record Encloses (test : Row → Bool) (span : Span) (rows : List Row) : Type 0 where
+pub record Encloses (test : Row → Bool) (span : PlaceSpan) (rows : List Row) : Type 0 where
   pub ordered : span.from ≤ span.to
   pub within : span.to ≤ length rows
   pub before : list_any test (take span.from rows) ≡ false
@@ -23,12 +23,12 @@ abbrev pub is_passed : Option Equation → Row → Bool
 is_passed condition row = is_ok_false (is_chosen condition row)
 
 -- the places are those of rows, and no row at another place is chosen
-pub record Spans (condition : Option Equation) (span : Span) (rows : List Row) : Type 0 where
+pub record Spans (condition : Option Equation) (span : PlaceSpan) (rows : List Row) : Type 0 where
   pub ordered : span.from ≤ span.to
   pub within : span.to ≤ length rows
   pub before : list_all (is_passed condition) (take span.from rows) ≡ true
   pub behind : list_all (is_passed condition) (drop span.to rows) ≡ true
 
 -- the rows with others in the place of those at some places
-abbrev pub replaced : List Row → Span → List Row → List Row
+abbrev pub replaced : List Row → PlaceSpan → List Row → List Row
 replaced rows span news = take span.from rows ++ news ++ drop span.to rows

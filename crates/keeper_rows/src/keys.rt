@@ -14,7 +14,7 @@ ghost use Rattle.keeper_formulas.specs.Values.{value_at, value_or_null, is_null,
 
 use crate::constraint::is_at;
 use crate::row::Row;
-use crate::spans::{Span, every_place, one_place};
+use crate::spans::{PlaceSpan, every_place, one_place};
 use hrana_value::{NoMemory, Value};
 use keeper_formulas::{is_null, value_at};
 use std::alloc::Global;
@@ -208,12 +208,12 @@ fn is_keyed(rows: &[Row], column: usize, place: usize, key: &Value) -> bool
 
 /// The place of the row with a key, or no place. Rows stand in the order of their rowids; where they didn't, all places are
 /// answered.
-pub fn span_with_key(rows: &[Row], index: &KeyIndex, key: &Value) -> Span
+pub fn span_with_key(rows: &[Row], index: &KeyIndex, key: &Value) -> PlaceSpan
     requires { HasKeys index.now (keys_at index.now.column rows.now) }
     ensures { Encloses (λ row. is_equal (value_at row.values index.now.column) key.now) result rows.now }
 {
     let Some(rowid) = index.get(key) else {
-        return Span { from: 0, to: 0 };
+        return PlaceSpan { from: 0, to: 0 };
     };
     let Some(place) = place_of_rowid(rows, rowid) else {
         return every_place(rows);

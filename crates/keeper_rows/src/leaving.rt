@@ -9,7 +9,7 @@ ghost use Rattle.keeper_rows.specs.Spans.{Spans};
 use crate::conditions::stays;
 use crate::keys::KeyIndex;
 use crate::row::Row;
-use crate::spans::{Span, rows_at};
+use crate::spans::{PlaceSpan, rows_at};
 use keeper_formulas::{Equation, value_at};
 
 /// Takes the key of a row out, if a condition chooses the row.
@@ -40,7 +40,7 @@ pub fn without_chosen(
     index: Option<KeyIndex>,
     condition: &Option<Equation>,
     rows: &[Row],
-    span: Span,
+    span: PlaceSpan,
 ) -> Option<KeyIndex>
     requires spans { Spans condition.now span rows.now }
     requires indexes { Indexes index rows.now }

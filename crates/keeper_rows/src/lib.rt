@@ -15,4 +15,4 @@ pub use constraint::breaks_key;
 pub use keys::put_vec;
 pub use row::Row;
 pub use rows::TableRows;
-pub use spans::{Span, rows_at};
+pub use spans::{PlaceSpan, rows_at};

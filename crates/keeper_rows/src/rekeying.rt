@@ -10,7 +10,7 @@ ghost use Rattle.keeper_rows.specs.Spans.{replaced};
 
 use crate::keys::KeyIndex;
 use crate::row::Row;
-use crate::spans::{Span, rows_at};
+use crate::spans::{PlaceSpan, rows_at};
 use hrana_value::NoMemory;
 use keeper_formulas::{are_equal, value_at};
 use std::alloc::Global;
@@ -109,7 +109,7 @@ pub fn give_keys(
     alloc: Global,
     mut index: KeyIndex,
     rows: &[Row],
-    span: Span,
+    span: PlaceSpan,
     news: &[Row],
 ) -> Result<Rekeyed, NoMemory>
     requires ordered { span.from ≤ span.to }

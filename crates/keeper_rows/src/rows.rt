@@ -2,7 +2,7 @@
 ghost use Rattle.std.specs.Prelude.{◌≡◌, ◌+◌, ◌<◌, ◌≤◌, ◌^◌, Bool, true, false, length, List, [], ◌∷◌, ◌++◌, slice_range, take, drop, Some, IsTrue, OnOk, OnErr, IfOk, filter};
 ghost use Rattle.keeper_formulas.specs.declared.formulas.Picture.{Picture};
 ghost use Rattle.keeper_rows.specs.declared.row.Row.{Row};
-ghost use Rattle.keeper_rows.specs.declared.spans.Span.{Span};
+ghost use Rattle.keeper_rows.specs.declared.spans.PlaceSpan.{PlaceSpan};
 ghost use Rattle.keeper_rows.specs.Keys.{Indexes, HasKeys, keys_at};
 ghost use Rattle.keeper_rows.specs.Constraint.{has_key, keeps_key};
 ghost use Rattle.keeper_rows.specs.Spans.{Spans, replaced};
@@ -14,7 +14,7 @@ use crate::keys::{KeyIndex, span_with_key};
 use crate::leaving::without_chosen;
 use crate::rekeying::give_keys;
 use crate::row::Row;
-use crate::spans::{Span, every_place, rows_at};
+use crate::spans::{PlaceSpan, every_place, rows_at};
 use hrana_value::{NoMemory, Value};
 use keeper_formulas::Equation;
 use std::alloc::Global;
@@ -47,7 +47,7 @@ fn retain_rows(rows: &mut Vec<Row>, condition: &Option<Equation>)
 }
 
 /// Removes the row at the one place that a condition may choose, if it does.
-fn remove_only(rows: &mut Vec<Row>, condition: &Option<Equation>, span: Span)
+fn remove_only(rows: &mut Vec<Row>, condition: &Option<Equation>, span: PlaceSpan)
     requires spans { Spans condition.now span rows.old.items }
     requires one { span.from + 1 ≡ span.to }
     ensures { rows.new.items ≡ filter (stays condition.now) rows.old.items }
@@ -58,7 +58,7 @@ fn remove_only(rows: &mut Vec<Row>, condition: &Option<Equation>, span: Span)
 }
 
 /// Removes the rows that a condition chooses among those at some places.
-fn remove_within(rows: &mut Vec<Row>, condition: &Option<Equation>, span: Span)
+fn remove_within(rows: &mut Vec<Row>, condition: &Option<Equation>, span: PlaceSpan)
     requires { Spans condition.now span rows.old.items }
     ensures { rows.new.items ≡ filter (stays condition.now) rows.old.items }
 {
@@ -103,7 +103,7 @@ fn grown_index(alloc: Global, index: Option<KeyIndex>, rows: &[Row]) -> Option<K
 }
 
 /// The place of the row that a condition may choose, where it says what the key is, else all places.
-fn span_of(rows: &[Row], index: &KeyIndex, condition: &Option<Equation>) -> Span
+fn span_of(rows: &[Row], index: &KeyIndex, condition: &Option<Equation>) -> PlaceSpan
     requires { HasKeys index.now (keys_at index.now.column rows.now) }
     ensures { Spans condition.now result rows.now }
 {
@@ -117,7 +117,7 @@ fn span_of(rows: &[Row], index: &KeyIndex, condition: &Option<Equation>) -> Span
 }
 
 /// Exchanges the rows at some places for others.
-fn exchange(rows: &mut Vec<Row>, span: Span, news: &mut Vec<Row>)
+fn exchange(rows: &mut Vec<Row>, span: PlaceSpan, news: &mut Vec<Row>)
     requires ordered { span.from ≤ span.to }
     requires within { span.to ≤ length rows.old.items }
     requires as_many { span.from + length news.old.items ≡ span.to }
@@ -181,7 +181,7 @@ impl TableRows {
 
     /// The places that a condition may choose: that of the row with the key, where the condition says that the key equals an
     /// expression that names no column, else all.
-    pub fn span_of(&self, condition: &Option<Equation>) -> Span
+    pub fn span_of(&self, condition: &Option<Equation>) -> PlaceSpan
         ensures { Spans condition.now result self.now }
     {
         match &self.index {
@@ -203,7 +203,7 @@ impl TableRows {
         &mut self,
         alloc: Global,
         key: Option<usize>,
-        span: Span,
+        span: PlaceSpan,
         mut news: Vec<Row>,
     ) -> Result<bool, NoMemory>
         requires ordered { span.from ≤ span.to }
@@ -234,7 +234,7 @@ impl TableRows {
         &mut self,
         alloc: Global,
         index: KeyIndex,
-        span: Span,
+        span: PlaceSpan,
         mut news: Vec<Row>,
     ) -> Result<bool, NoMemory>
         requires ordered { span.from ≤ span.to }
@@ -262,7 +262,7 @@ impl TableRows {
         &mut self,
         alloc: Global,
         column: usize,
-        span: Span,
+        span: PlaceSpan,
         mut news: Vec<Row>,
     ) -> Result<bool, NoMemory>
         requires ordered { span.from ≤ span.to }
@@ -307,13 +307,9 @@ impl TableRows {
         ensures err { OnErr result (self.new ≡ self.old) }
     {
         let index = grown_index(alloc, self.index.take(), rows.as_slice());
-        match self.items.append(&mut rows) {
-            Ok(()) => {
-                self.index = index;
-                Ok(())
-            }
-            Err(_) => Err(NoMemory),
-        }
+        self.items.append(&mut rows)?;
+        self.index = index;
+        Ok(())
     }
 
     /// Removes the rows that a condition chooses.

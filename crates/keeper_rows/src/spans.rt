@@ -5,26 +5,26 @@ use crate::row::Row;
 
 /// Places of rows: from one on, up to and without another.
 #[derive(Clone, Copy)]
-pub struct Span {
+pub struct PlaceSpan {
     pub from: usize,
     pub to: usize,
 }
 
 /// One place.
-pub fn one_place(rows: &[Row], place: usize) -> Span
+pub fn one_place(rows: &[Row], place: usize) -> PlaceSpan
     requires { place < length rows.now }
     ensures from { result.from ≡ place }
     ensures to { result.to ≡ place + 1 }
 {
     let _len = rows.len();
-    Span {
+    PlaceSpan {
         from: place,
         to: place + 1,
     }
 }
 
 /// The rows at these places.
-pub fn rows_at(rows: &[Row], span: Span) -> &[Row]
+pub fn rows_at(rows: &[Row], span: PlaceSpan) -> &[Row]
     requires ordered { span.from ≤ span.to }
     requires within { span.to ≤ length rows.now }
     ensures between { rows.now ≡ take span.from rows.now ++ result.now ++ drop span.to rows.now }
@@ -34,11 +34,11 @@ pub fn rows_at(rows: &[Row], span: Span) -> &[Row]
 }
 
 /// All places.
-pub fn every_place(rows: &[Row]) -> Span
+pub fn every_place(rows: &[Row]) -> PlaceSpan
     ensures from { result.from ≡ 0 }
     ensures to { result.to ≡ length rows.now }
 {
-    Span {
+    PlaceSpan {
         from: 0,
         to: rows.len(),
     }

@@ -31,8 +31,7 @@ use Rattle.memory_keeper.specs.Tables as table
 -- the table of a name with its place
 abbrev pub placed : Option ℕ → Option Table → Result (ℕ × Table) Refusal
 placed (Some place) (Some t) = Ok (place, t)
-placed (Some place) None = Err NoTable
-placed None found = Err NoTable
+placed _ _ = Err NoTable
 
 abbrev pub table_of : List Table → List ℕ → Result (ℕ × Table) Refusal
 table_of db name = placed (table_place db name) (option_and_then (slice_get db) (table_place db name))

@@ -7,6 +7,7 @@ use Rattle.keeper_formulas.specs.declared.fail.Refusal.{Refusal}
 use Rattle.keeper_formulas.specs.declared.fail.Refusal.TheVariants.{NoColumn, Constraint, Overflow, ResultTooLarge}
 use Rattle.hrana_stmt.specs.declared.results.Col.{Col}
 use Rattle.hrana_stmt.specs.declared.results.StmtResult.{StmtResult}
+use Rattle.engine_core.specs.declared.limits.TheConstants.{MAX_ROWS, MAX_RESULT_BYTES}
 use Rattle.engine_core.specs.Results.{rows_size}
 use Rattle.keeper_dialect.specs.declared.query.Expr.{Expr}
 use Rattle.keeper_dialect.specs.declared.query.ColDef.{ColDef}
@@ -35,9 +36,9 @@ named name = record { name = Some name }
 abbrev pub selected : List (List ℕ) → List (List Value) → StmtResult
 selected names rows = record { cols = map named names; rows = rows; affected = 0; last_rowid = None }
 
--- a result has at most 4,096 rows and 1,048,576 bytes of values
+-- a result has at most so many rows, and so many bytes of values
 abbrev pub fits : List (List Value) → Bool
-fits rows = nat_le (length rows) 4096 && nat_le (rows_size rows) 1048576
+fits rows = nat_le (length rows) MAX_ROWS && nat_le (rows_size rows) MAX_RESULT_BYTES
 
 abbrev pub fitting : List (List ℕ) → List (List Value) → Result StmtResult Refusal
 fitting names rows = if fits rows then Ok (selected names rows) else Err ResultTooLarge
@@ -119,9 +120,8 @@ renewed_row row (Some values) = record row { values = values }
 
 -- rows keep their rowids
 abbrev pub renewed : List Row → List (Option (List Value)) → List Row
-renewed [] news = []
-renewed (row ∷ rows) [] = row ∷ rows
 renewed (row ∷ rows) (new ∷ news) = renewed_row row new ∷ renewed rows news
+renewed rows _ = rows
 
 -- the rows with their new values, and how many have any
 abbrev pub all_renewed : Option Equation → List Equation → List Row → Result (List Row × ℕ) Refusal

@@ -12,7 +12,7 @@ use crate::tables::Table;
 use hrana_stmt::StmtResult;
 use hrana_value::{NoMemory, Txt, Value};
 use keeper_dialect::{Expr, Exprs, NameList};
-use keeper_formulas::{Equation, Equations, Fail, Refusal, formula_of, place_of};
+use keeper_formulas::{Equation, Equations, Fail, Formula, Refusal, Resolve, place_of};
 use keeper_rows::{Row, TableRows, breaks_key};
 use std::alloc::Global;
 
@@ -59,7 +59,7 @@ fn tuple_equation(
 ) -> Result<Equation, Fail>
     ensures { Gives (tuple_equation bound.now (place, expr.now)) result }
 {
-    let formula = formula_of(alloc, &[], bound, expr)?;
+    let formula = Formula::resolve(alloc, &[], bound, expr)?;
     Ok(Equation { place, formula })
 }
 

@@ -74,9 +74,7 @@ impl Engine for MemoryKeeper {
     ghost refusals = { λ _. refl };
 
     fn begin(&mut self, txn: u64, write: bool) -> Result<(), EngineFail> {
-        let Ok(database) = self.database.copy(self.alloc) else {
-            return Err(EngineFail::NoMemory);
-        };
+        let database = self.database.copy(self.alloc)?;
         self.running = Some(Running {
             txn,
             database,

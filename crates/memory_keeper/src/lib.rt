@@ -12,8 +12,6 @@ mod queries;
 mod rows;
 mod select;
 mod tables;
-#[cfg(test)]
-mod tests;
 mod update;
 
 pub use keeper::MemoryKeeper;

@@ -16,8 +16,8 @@ use crate::tables::Table;
 use crate::update::update;
 use hrana_stmt::StmtResult;
 use hrana_value::{Txt, Value, Values};
-use keeper_dialect::{ColDef, ColExpr, ColExprs, NameList, Query, Shown, Tuples};
-use keeper_formulas::{Fail, Refusal, is_same_name};
+use keeper_dialect::{ColDef, ColExpr, ColExprs, NameList, Query, Shown, Tuples, is_same_name};
+use keeper_formulas::{Fail, Refusal};
 use keeper_rows::{Row, TableRows};
 use std::alloc::Global;
 

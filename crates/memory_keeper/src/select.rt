@@ -8,35 +8,15 @@ ghost use Rattle.keeper_formulas.specs.Formulas.{formula_of, formula_value};
 ghost use Rattle.memory_keeper.specs.Tables.{picture_of, names_of, fits, select, named};
 ghost use Rattle.keeper_rows.specs.Chosen.{shown_values, row_shown, shown_rows, chosen_rows};
 
+use engine_core::{MAX_RESULT_BYTES, MAX_ROWS};
 use hrana_stmt::{Col, Cols, Rows, StmtResult};
 use hrana_value::{NoMemory, Txt, Value, Values};
 use keeper_dialect::{ColExpr, Item, Shown};
 use keeper_formulas::{
-    Equation, Fail, Formula, Formulas, Picture, Refusal, condition_of, formula_of, formula_value,
+    Equation, Fail, Formula, Picture, Refusal, condition_of, formula_value, resolve_each,
 };
 use keeper_rows::{Row, TableRows, chosen_count, is_chosen};
 use std::alloc::Global;
-
-/// The most rows of a result.
-const MAX_ROWS: usize = 4096;
-
-/// The most bytes of a result's values: a null and an integer count 8, a text and a blob 8 and their length.
-const MAX_SIZE: usize = 1048576;
-
-fn formulas_of(
-    alloc: Global,
-    columns: &[Txt],
-    bound: &[Value],
-    items: &[Item],
-) -> Result<Formulas, Fail>
-    ensures { Gives (each (λ item. formula_of columns.now bound.now item.expr) items.now) result }
-{
-    let mut formulas = Formulas::new(alloc);
-    for item in items {
-        formulas.push(formula_of(alloc, columns, bound, &item.expr)?)?;
-    }
-    Ok(formulas)
-}
 
 fn picture_of(
     alloc: Global,
@@ -50,7 +30,7 @@ fn picture_of(
         Shown::All => Ok(Picture::All),
         Shown::Count { .. } => Ok(Picture::Count),
         Shown::List(items) => {
-            Ok(Picture::List(formulas_of(alloc, columns, bound, items.as_slice())?))
+            Ok(Picture::List(resolve_each(alloc, columns, bound, items.as_slice())?))
         }
     }
 }
@@ -168,7 +148,7 @@ fn fits(rows: &[Values]) -> bool
     if rows.len() > MAX_ROWS {
         return false;
     }
-    let mut left = MAX_SIZE;
+    let mut left = MAX_RESULT_BYTES;
     for row in rows {
         let Some(rest) = size_left(left, row.as_slice()) else {
             return false;

@@ -9,7 +9,7 @@ use crate::tables::Table;
 use hrana_stmt::StmtResult;
 use hrana_value::{NoMemory, Value, Values};
 use keeper_dialect::ColExpr;
-use keeper_formulas::{Equation, Fail, Refusal, condition_of, equations_of};
+use keeper_formulas::{Equation, Equations, Fail, Refusal, condition_of, resolve_each};
 use keeper_rows::{Row, TableRows, is_chosen, rows_at};
 use std::alloc::Global;
 
@@ -18,16 +18,6 @@ use std::alloc::Global;
 struct Renewed {
     rows: Vec<Row>,
     count: usize,
-}
-
-fn values_copied(alloc: Global, values: &[Value]) -> Result<Vec<Value>, NoMemory>
-    ensures { IfOk result (λ copies. copies.items ≡ values.now) }
-{
-    let mut copies = Vec::new(alloc);
-    for value in values {
-        copies.push(value.copy(alloc)?)?;
-    }
-    Ok(copies)
 }
 
 /// The new values of a row, if it is chosen.
@@ -42,9 +32,8 @@ fn renewal(
     if !is_chosen(condition, row)? {
         return Ok(None);
     }
-    let old = row.values.as_slice();
-    let new = values_copied(alloc, old)?;
-    Ok(Some(assigned(alloc, old, new, sets)?))
+    let new = row.values.copy(alloc)?.into_vec();
+    Ok(Some(assigned(alloc, row.values.as_slice(), new, sets)?))
 }
 
 fn renewed_row(alloc: Global, row: &Row, new: Option<Values>) -> Result<Row, NoMemory>
@@ -123,7 +112,7 @@ pub fn update(
     ensures changes { Changes (update table.old sets.now wanted.now bound.now) table.old result table.new }
     ensures small { IfOk result IsSmall }
 {
-    let equations = equations_of(alloc, table.columns.as_slice(), bound, sets)?;
+    let equations: Equations = resolve_each(alloc, table.columns.as_slice(), bound, sets)?;
     let condition = condition_of(alloc, table.columns.as_slice(), bound, wanted)?;
     let count = update_rows(
         alloc,
