@@ -3,7 +3,7 @@ ghost use Rattle.std.specs.Prelude.{◌≡◌, ◌++◌, ℕ, None, Some, length
 ghost use Rattle.sql_text.specs.Spans.{spans_of, unclosed_at, AreInOrder, grown, closed_span, is_unclosed, EachPieceIsItsSlice, StandsBetween};
 
 use crate::class::{Role, role_of};
-use crate::pieces::{Kind, piece_at};
+use crate::pieces::{PieceKind, piece_at};
 use hrana_value::NoMemory;
 use std::alloc::Global;
 
@@ -22,11 +22,11 @@ pub enum SplitFail {
     NoMemory,
 }
 
-pub(crate) fn is_unclosed(kind: Kind) -> bool
+pub(crate) fn is_unclosed(kind: PieceKind) -> bool
     ensures { result ≡ is_unclosed kind }
 {
     match kind {
-        Kind::Unclosed => true,
+        PieceKind::Unclosed => true,
         _ => false,
     }
 }
