@@ -7,7 +7,7 @@ use Rattle.std.proofs.lemmas.Bool.{cond-true, cond-false, and_from, le-leb}
 use Rattle.hrana_value.specs.declared.value.Value.{Value}
 use Rattle.hrana_value.specs.declared.value.Value.TheVariants.{Null}
 use Rattle.hrana_stmt.specs.declared.statements.NamedArg.{NamedArg}
-use Rattle.sql_text.specs.declared.parameters.TheConstants.{MAX_PARAMETERS}
+use Rattle.sql_text.specs.declared.limits.TheConstants.{MAX_PARAMETERS}
 use Rattle.sql_text.specs.declared.binding.BindFail.{BindFail}
 use Rattle.sql_text.specs.declared.binding.BindFail.TheVariants as fail
 use Rattle.std.proofs.lemmas.List.{drop_all, length-map}

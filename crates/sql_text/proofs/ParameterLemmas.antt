@@ -6,7 +6,7 @@ use Rattle.std.proofs.lemmas.List.Elements.{All-cons, All-head, All-tail}
 use Rattle.std.proofs.lemmas.Bool.{cond_both, cond-true, cond-false, or_from, or_left, lt-ltb, le-ltb, eq-eqb, ne_eqb, and_left, or_parts, eqb-true, not-false, not_from_false}
 use Rattle.std.specs.Str.{bytes_eq}
 use Rattle.std.specs.Borrow.{Bor}
-use Rattle.sql_text.specs.declared.parameters.TheConstants.{MAX_PARAMETERS}
+use Rattle.sql_text.specs.declared.limits.TheConstants.{MAX_PARAMETERS}
 use Rattle.sql_text.specs.Parameters.{Numbered, greatest_from, greatest, has_number, is_named, is_name, number_of_name, digits_value, numbered, inserted, table_from, texts_of, IsKept}
 
 pub digits_value_least : (n : ℕ) (ds : List ℕ) → n ≤ digits_value n ds

@@ -6,7 +6,7 @@ use Rattle.std.specs.List.{list_all, find}
 use Rattle.hrana_value.specs.declared.value.Value.{Value}
 use Rattle.hrana_value.specs.declared.value.Value.TheVariants.{Null}
 use Rattle.hrana_stmt.specs.declared.statements.NamedArg.{NamedArg}
-use Rattle.sql_text.specs.declared.parameters.TheConstants.{MAX_PARAMETERS}
+use Rattle.sql_text.specs.declared.limits.TheConstants.{MAX_PARAMETERS}
 use Rattle.sql_text.specs.declared.binding.BindFail.{BindFail}
 use Rattle.sql_text.specs.declared.binding.BindFail.TheVariants as fail
 use Rattle.sql_text.specs.Pieces.{pieces, is_prefix}

@@ -5,7 +5,7 @@ use Rattle.std.specs.Borrow.{Bor}
 use Rattle.std.specs.Str.{bytes_eq}
 use Rattle.sql_text.specs.declared.pieces.PieceKind.{PieceKind}
 use Rattle.sql_text.specs.declared.pieces.PieceKind.TheVariants as kind
-use Rattle.sql_text.specs.declared.parameters.TheConstants.{MAX_PARAMETERS}
+use Rattle.sql_text.specs.declared.limits.TheConstants.{MAX_PARAMETERS}
 use Rattle.sql_text.specs.Pieces.{Token}
 
 abbrev pub is_parameter : PieceKind → Bool

@@ -5,9 +5,10 @@ ghost use Rattle.std.specs.Option.{option_or, option_copied};
 ghost use Rattle.std.specs.List.{list_all};
 ghost use Rattle.hrana_stmt.specs.declared.statements.NamedArg.{NamedArg};
 ghost use Rattle.sql_text.specs.Parameters.{is_parameter, has_number, greatest};
-ghost use Rattle.sql_text.specs.Binding.{number_met, first_missing, values_of, or_missing, all_expected, bound_values, parameters_of, bound, AnswersAs, StandsFor, RefusesAs, ValueAs, HasLast};
+ghost use Rattle.sql_text.specs.Binding.{number_met, first_missing, values_of, or_missing, bound_values, parameters_of, bound, AnswersAs, StandsFor, RefusesAs, ValueAs, HasLast};
 
-use crate::parameters::{MAX_PARAMETERS, PLACES, Parameters, take_next};
+use crate::limits::MAX_PARAMETERS;
+use crate::parameters::{PLACES, Parameters, take_next};
 use crate::pieces::{PieceKind, is_prefix, piece_at};
 use crate::spans::is_unclosed;
 use hrana_stmt::NamedArg;

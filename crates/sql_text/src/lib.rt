@@ -4,6 +4,7 @@
 
 mod binding;
 mod class;
+mod limits;
 mod parameters;
 mod pieces;
 mod spans;
@@ -11,7 +12,8 @@ mod statements;
 
 pub use binding::{BindFail, are_bound, bind};
 pub use class::{Class, Mode, class_of};
-pub use parameters::{MAX_PARAMETERS, Parameters, limits_are, next_parameter};
+pub use limits::{MAX_PARAMETERS, limits_are};
+pub use parameters::{Parameters, next_parameter};
 pub use pieces::{
     Piece, PieceKind, PlacedPiece, each_text_has_one_list_of_pieces, first_piece, piece_at,
 };

@@ -1,20 +1,13 @@
 // The parameters of a text, numbered in its order.
-ghost use Rattle.std.specs.Prelude.{◌≡◌, ◌+◌, ◌<◌, ◌≤◌, [], ℕ, List, min, length, IfSome, false, ◌⊎◌};
+ghost use Rattle.std.specs.Prelude.{◌≡◌, ◌+◌, ◌<◌, ◌≤◌, [], List, min, length, IfSome};
 ghost use Rattle.std.specs.Bool.{OnTrue};
 ghost use Rattle.sql_text.specs.Parameters.{Numbered, greatest, has_number, number_of_name, is_name, digits_value, number_taken, with_parameter, with_number, fits, number_within, with_fitting, table_from, texts_of, IsKept};
 
+use crate::limits::MAX_PARAMETERS;
 use std::marker::Model;
-
-/// The most parameters of a text: their numbers are from 1 to this.
-pub const MAX_PARAMETERS: u16 = 256;
 
 /// A place for each number, and one for 0.
 pub(crate) const PLACES: usize = MAX_PARAMETERS as usize + 1;
-
-/// The limits of this crate.
-pub fn limits_are()
-    ensures max_parameters { MAX_PARAMETERS ≡ 256 }
-{}
 
 /// The parameters of a text so far.
 #[derive(Drop)]

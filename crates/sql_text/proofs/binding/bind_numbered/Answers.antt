@@ -1,6 +1,6 @@
 use Rattle.std.proofs.Common.{None, arith, ◌+◌}
 use Rattle.std.proofs.lemmas.List.{get_or-replicate}
-use Rattle.sql_text.specs.declared.parameters.TheConstants.{MAX_PARAMETERS}
+use Rattle.sql_text.specs.declared.limits.TheConstants.{MAX_PARAMETERS}
 use Rattle.sql_text.proofs.binding.bind_numbered.Goals as goal
 
 pub note_named-requires-clause-empty : goal.note_named-requires-clause-empty

@@ -1,5 +1,5 @@
 use Rattle.std.proofs.Common.{◌≡◌, ◌≤◌, drop}
-use Rattle.sql_text.specs.declared.parameters.TheConstants.{MAX_PARAMETERS}
+use Rattle.sql_text.specs.declared.limits.TheConstants.{MAX_PARAMETERS}
 use Rattle.sql_text.specs.Parameters.{digits_value}
 use Rattle.sql_text.proofs.parameters.digits_value.Given as goal
 
