@@ -3,8 +3,8 @@ use Rattle.std.proofs.Common.{◌≡◌, ◌+◌, ℕ, Bool, true, false, cond, 
 use Rattle.std.specs.Prelude.{slice_index, ◌==◌}
 use Rattle.std.specs.Str.{str_to_ascii_lowercase}
 use Rattle.std.proofs.lemmas.Slice.Eq.{bytes_eq-Decides}
-use Rattle.sql_text.specs.declared.pieces.Kind.{Kind}
-use Rattle.sql_text.specs.declared.pieces.Kind.TheVariants as kind
+use Rattle.sql_text.specs.declared.pieces.PieceKind.{PieceKind}
+use Rattle.sql_text.specs.declared.pieces.PieceKind.TheVariants as kind
 use Rattle.sql_text.specs.declared.class.Class.{Class}
 use Rattle.sql_text.specs.declared.class.Class.TheVariants as class
 use Rattle.sql_text.specs.Pieces.{Token as Piece, token as piece, pieces}
@@ -48,7 +48,7 @@ no_parameter : (k : Keyword) (o : Option ℕ) → parameter_or_stray o ≡ symbo
 no_parameter k None is = cc is
 no_parameter k (Some n) is = cc is
 
-begins-step : (k : Keyword) (seen : List Numbered) (before : List ℕ) (start : ℕ) (form : Kind) (bytes : List ℕ) (ps : List Piece) → ((before : List ℕ) (start : ℕ) → symbol_at (tokens_from seen before start ps) ≡ symbol.Keyword k → BeginsWith k ps) → symbol_at (tokens_from seen before start (piece form bytes ∷ ps)) ≡ symbol.Keyword k → BeginsWith k (piece form bytes ∷ ps)
+begins-step : (k : Keyword) (seen : List Numbered) (before : List ℕ) (start : ℕ) (form : PieceKind) (bytes : List ℕ) (ps : List Piece) → ((before : List ℕ) (start : ℕ) → symbol_at (tokens_from seen before start ps) ≡ symbol.Keyword k → BeginsWith k ps) → symbol_at (tokens_from seen before start (piece form bytes ∷ ps)) ≡ symbol.Keyword k → BeginsWith k (piece form bytes ∷ ps)
 unfolding tokens_from words
 begins-step k seen before start kind.Blank bytes ps later is = let b = later (before ++ bytes) (start + length bytes) is in record { word = b.word; rest = b.rest; reserved = b.reserved; same = b.same }
 begins-step k seen before start kind.Comment bytes ps later is = let b = later (before ++ bytes) (start + length bytes) is in record { word = b.word; rest = b.rest; reserved = b.reserved; same = b.same }

@@ -2,8 +2,8 @@
 use Rattle.std.proofs.Common.{◌≡◌, ◌+◌, ℕ, Bool, true, false, cond, List, [], ◌∷◌, ◌++◌, length, Option, Some, None, refl, sym, ap, ◌∙◌, arith}
 use Rattle.std.specs.Prelude.{◌==◌, slice_index}
 use Rattle.std.proofs.lemmas.List.{length-append}
-use Rattle.sql_text.specs.declared.pieces.Kind.{Kind}
-use Rattle.sql_text.specs.declared.pieces.Kind.TheVariants as kind
+use Rattle.sql_text.specs.declared.pieces.PieceKind.{PieceKind}
+use Rattle.sql_text.specs.declared.pieces.PieceKind.TheVariants as kind
 use Rattle.sql_text.specs.Pieces.{Token as Piece, pieces, joined}
 use Rattle.sql_text.specs.Parameters.{Numbered, number_taken, number_within}
 use Rattle.sql_text.proofs.PieceLists.{each_text_has_one_list}
@@ -30,7 +30,7 @@ word_is_no_end (Some k) = refl
 word_is_no_end None = refl
 
 -- no piece is the end
-piece_is_no_end : (seen : List Numbered) (k : Kind) (bytes : List ℕ) → is_end (symbol_of seen k bytes) ≡ false
+piece_is_no_end : (seen : List Numbered) (k : PieceKind) (bytes : List ℕ) → is_end (symbol_of seen k bytes) ≡ false
 piece_is_no_end seen kind.Blank bytes = refl
 piece_is_no_end seen kind.Comment bytes = refl
 piece_is_no_end seen kind.Quoted bytes = run_is_no_end (slice_index bytes 0)

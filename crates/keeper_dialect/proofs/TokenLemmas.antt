@@ -3,7 +3,7 @@ use Rattle.std.proofs.Common.{◌≡◌, ◌≤◌, ◌<◌, ◌+◌, ◌-◌, �
 use Rattle.std.specs.Prelude.{slice_range}
 use Rattle.std.proofs.lemmas.List.{append_cancel_right, map_push, drop_all, length-drop, length-take-le}
 use Rattle.std.proofs.lemmas.List.Folds.{drop_split}
-use Rattle.sql_text.specs.declared.pieces.Kind.{Kind}
+use Rattle.sql_text.specs.declared.pieces.PieceKind.{PieceKind}
 use Rattle.sql_text.specs.Pieces.{Token as Piece, token as piece, pieces}
 use Rattle.sql_text.specs.Parameters.{Numbered}
 use Rattle.sql_text.proofs.PieceLists.{pieces-nil}
@@ -27,7 +27,7 @@ taken_by : (test : Bool) (A : List Token) (B : List Token) → test ≡ false �
 taken_by true A B is = cc is
 taken_by false A B is = refl
 
-pub tokens_from-passed : (seen : List Numbered) (sql : List ℕ) (from at end : ℕ) (k : Kind) (ps rest : List Piece) → ps ≡ piece k (slice_range sql at end) ∷ rest → is_passed k ≡ true → from ≤ at → at < end → end ≤ length sql → tokens_from seen (slice_range sql from at) at ps ≡ tokens_from seen (slice_range sql from end) end rest
+pub tokens_from-passed : (seen : List Numbered) (sql : List ℕ) (from at end : ℕ) (k : PieceKind) (ps rest : List Piece) → ps ≡ piece k (slice_range sql at end) ∷ rest → is_passed k ≡ true → from ≤ at → at < end → end ≤ length sql → tokens_from seen (slice_range sql from at) at ps ≡ tokens_from seen (slice_range sql from end) end rest
 unfolding tokens_from
 tokens_from-passed seen sql from at end k ps rest is passed low high within =
     let size : length (slice_range sql at end) ≡ end - at = length_slice sql at end (omega arith) within in
@@ -37,7 +37,7 @@ tokens_from-passed seen sql from at end k ps rest is passed low high within =
 pub slice_none : {A : Type 0} (xs : List A) (a : ℕ) → slice_range xs a a ≡ []
 slice_none xs a = grind arith
 
-pub tokens_from-taken : (seen : List Numbered) (sql : List ℕ) (from at end : ℕ) (k : Kind) (ps rest : List Piece) → ps ≡ piece k (slice_range sql at end) ∷ rest → is_passed k ≡ false → at < end → end ≤ length sql → tokens_from seen (slice_range sql from at) at ps ≡ token_of seen (slice_range sql from at) at k (slice_range sql at end) ∷ tokens_from (seen_after seen k (slice_range sql at end)) (slice_range sql end end) end rest
+pub tokens_from-taken : (seen : List Numbered) (sql : List ℕ) (from at end : ℕ) (k : PieceKind) (ps rest : List Piece) → ps ≡ piece k (slice_range sql at end) ∷ rest → is_passed k ≡ false → at < end → end ≤ length sql → tokens_from seen (slice_range sql from at) at ps ≡ token_of seen (slice_range sql from at) at k (slice_range sql at end) ∷ tokens_from (seen_after seen k (slice_range sql at end)) (slice_range sql end end) end rest
 unfolding tokens_from
 tokens_from-taken seen sql from at end k ps rest is taken high within =
     let size : length (slice_range sql at end) ≡ end - at = length_slice sql at end (omega arith) within in

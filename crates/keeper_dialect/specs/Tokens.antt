@@ -1,8 +1,8 @@
 -- The tokens of a text: its pieces that are neither blank nor comment, and one more where the text ends.
 use Rattle.std.specs.Prelude.{◌==◌, ◌+◌, ℕ, Bool, true, false, List, [], ◌∷◌, ◌++◌, map, length, slice_index, codes, Option, Some, None, if◌then◌else◌}
 use Rattle.std.specs.Str.{str_eq_ignore_ascii_case}
-use Rattle.sql_text.specs.declared.pieces.Kind.{Kind}
-use Rattle.sql_text.specs.declared.pieces.Kind.TheVariants as kind
+use Rattle.sql_text.specs.declared.pieces.PieceKind.{PieceKind}
+use Rattle.sql_text.specs.declared.pieces.PieceKind.TheVariants as kind
 use Rattle.sql_text.specs.Pieces.{Token as Piece, pieces}
 use Rattle.sql_text.specs.Parameters.{Numbered, number_taken, number_within, with_fitting}
 use Rattle.keeper_dialect.specs.declared.tokens.Keyword.{Keyword}
@@ -68,7 +68,7 @@ parameter_or_stray (Some n) = symbol.Parameter n
 parameter_or_stray None = symbol.Stray
 
 -- what a piece is, after some parameters
-abbrev pub symbol_of : List Numbered → Kind → List ℕ → Symbol
+abbrev pub symbol_of : List Numbered → PieceKind → List ℕ → Symbol
 symbol_of seen kind.Quoted bytes = symbol_of_run (slice_index bytes 0)
 symbol_of seen kind.Parameter bytes = parameter_or_stray (number_within (number_taken seen bytes))
 symbol_of seen kind.Word bytes = symbol_of_word bytes
@@ -77,12 +77,12 @@ symbol_of seen (kind.Sign b) bytes = symbol.Sign b
 symbol_of seen _ bytes = symbol.Stray
 
 -- the parameters so far, and a piece, if it is one
-abbrev pub seen_after : List Numbered → Kind → List ℕ → List Numbered
+abbrev pub seen_after : List Numbered → PieceKind → List ℕ → List Numbered
 seen_after seen kind.Parameter bytes = with_fitting seen bytes
 seen_after seen _ bytes = seen
 
 -- blanks and comments
-abbrev pub is_passed : Kind → Bool
+abbrev pub is_passed : PieceKind → Bool
 is_passed kind.Blank = true
 is_passed kind.Comment = true
 is_passed _ = false
@@ -90,7 +90,7 @@ is_passed _ = false
 abbrev pub end_token : List ℕ → ℕ → Token
 end_token before start = record { symbol = symbol.End; before = before; text = []; start = start }
 
-abbrev pub token_of : List Numbered → List ℕ → ℕ → Kind → List ℕ → Token
+abbrev pub token_of : List Numbered → List ℕ → ℕ → PieceKind → List ℕ → Token
 token_of seen before start k bytes = record { symbol = symbol_of seen k bytes; before = before; text = bytes; start = start }
 
 -- the tokens of the pieces from a place on, after some parameters, and after blanks and comments just before the place

@@ -1,13 +1,12 @@
 // The tokens of a text: its pieces that are neither blank nor comment, and where the text ends.
 ghost use Rattle.std.specs.Prelude.{◌≡◌, ◌<◌, ◌≤◌, [], IfOk, length, slice_index, slice_range};
 ghost use Rattle.std.specs.Str.{IsCharBoundary};
-ghost use Rattle.sql_text.specs.Parameters.{views as parameter_views, AreApart};
 ghost use Rattle.keeper_dialect.specs.Reading.{rank_of};
 ghost use Rattle.keeper_dialect.specs.Tokens.{early_keyword, late_keyword, or_keyword, keyword_or_word, symbol_of_word, symbol_of_run, symbol_of, seen_after, is_passed, token_of, tokens_of, end_token, view, views};
 
 use crate::names::is_same_name;
 use hrana_value::NoMemory;
-use sql_text::{Kind, Parameters, PlacedPiece, next_parameter, piece_at};
+use sql_text::{Parameters, PieceKind, PlacedPiece, next_parameter, piece_at};
 use std::alloc::Global;
 
 /// The words that are reserved.
@@ -156,31 +155,29 @@ fn symbol_of_run(quote: u8) -> Symbol
 }
 
 /// What a piece is. A parameter takes its number.
-fn symbol_of<'a>(seen: &mut Parameters<'a>, kind: Kind, text: &'a str) -> Symbol
-    requires apart { AreApart (parameter_views seen.old.items) }
+fn symbol_of<'a>(seen: &mut Parameters<'a>, kind: PieceKind, text: &'a str) -> Symbol
     requires some { 0 < length text.now }
-    ensures apart { AreApart (parameter_views seen.new.items) }
-    ensures symbol { result ≡ symbol_of (parameter_views seen.old.items) kind text.now }
-    ensures seen { parameter_views seen.new.items ≡ seen_after (parameter_views seen.old.items) kind text.now }
+    ensures symbol { result ≡ symbol_of seen.old kind text.now }
+    ensures seen { seen.new ≡ seen_after seen.old kind text.now }
 {
     match kind {
-        Kind::Quoted => symbol_of_run(text.as_bytes()[0]),
-        Kind::Parameter => match next_parameter(seen, text.as_bytes()) {
+        PieceKind::Quoted => symbol_of_run(text.as_bytes()[0]),
+        PieceKind::Parameter => match next_parameter(seen, text.as_bytes()) {
             Some(number) => Symbol::Parameter(number),
             None => Symbol::Stray,
         },
-        Kind::Word => symbol_of_word(text),
-        Kind::Number => Symbol::Number,
-        Kind::Sign(sign) => Symbol::Sign(sign),
-        Kind::Blank | Kind::Comment | Kind::Unclosed => Symbol::Stray,
+        PieceKind::Word => symbol_of_word(text),
+        PieceKind::Number => Symbol::Number,
+        PieceKind::Sign(sign) => Symbol::Sign(sign),
+        PieceKind::Blank | PieceKind::Comment | PieceKind::Unclosed => Symbol::Stray,
     }
 }
 
-fn is_passed(kind: Kind) -> bool
+fn is_passed(kind: PieceKind) -> bool
     ensures { result ≡ is_passed kind }
 {
     match kind {
-        Kind::Blank | Kind::Comment => true,
+        PieceKind::Blank | PieceKind::Comment => true,
         _ => false,
     }
 }
@@ -193,16 +190,14 @@ fn token_of<'a>(
     at: usize,
     piece: PlacedPiece,
 ) -> Token<'a>
-    requires apart { AreApart (parameter_views seen.old.items) }
     requires before { from ≤ at }
     requires some { at < piece.end }
     requires within { piece.end ≤ length sql.now }
     requires starts { IsCharBoundary sql.now from }
     requires between { IsCharBoundary sql.now at }
     requires ends { IsCharBoundary sql.now piece.end }
-    ensures apart { AreApart (parameter_views seen.new.items) }
-    ensures token { view result ≡ token_of (parameter_views seen.old.items) (slice_range sql.now from at) at piece.kind (slice_range sql.now at piece.end) }
-    ensures seen { parameter_views seen.new.items ≡ seen_after (parameter_views seen.old.items) piece.kind (slice_range sql.now at piece.end) }
+    ensures token { view result ≡ token_of seen.old (slice_range sql.now from at) at piece.kind (slice_range sql.now at piece.end) }
+    ensures seen { seen.new ≡ seen_after seen.old piece.kind (slice_range sql.now at piece.end) }
 {
     let text = &sql[at..piece.end];
     Token {

@@ -1,22 +1,20 @@
 -- Binding, parameter by parameter.
-use Rattle.std.proofs.Common.{◌≡◌, ◌≤◌, ◌+◌, ◌-◌, ℕ, suc, zero, Bool, true, false, cond, List, [], ◌∷◌, ◌++◌, map, length, length-append, drop, Option, Some, None, Ok, Err, append_assoc, Bor, refl, sym, ap, ◌∙◌, arith}
-use Rattle.std.specs.Prelude.{slice_range, slice_index_or, slice_get, is_some, is_none, unwrap_or, nat_le, Result, IfOk, ◌&&◌}
+use Rattle.std.proofs.Common.{◌≡◌, ◌≤◌, ◌+◌, ◌-◌, ℕ, suc, zero, Bool, true, false, cond, List, [], ◌∷◌, ◌++◌, map, length, length-append, drop, Option, Some, None, Ok, Err, append_assoc, Bor, refl, sym, ap, ◌∙◌, subst, arith}
+use Rattle.std.specs.Prelude.{slice_index_or, slice_get, is_some, is_none, unwrap_or, nat_le, Result, IfOk, ◌&&◌}
 use Rattle.std.specs.Option.{option_or, option_copied}
-use Rattle.std.specs.List.{IsDistinct, find, list_all}
+use Rattle.std.specs.List.{find, list_all}
 use Rattle.std.proofs.lemmas.Bool.{cond-true, cond-false, and_from, le-leb}
 use Rattle.hrana_value.specs.declared.value.Value.{Value}
 use Rattle.hrana_value.specs.declared.value.Value.TheVariants.{Null}
 use Rattle.hrana_stmt.specs.declared.statements.NamedArg.{NamedArg}
+use Rattle.sql_text.specs.declared.limits.TheConstants.{MAX_PARAMETERS}
 use Rattle.sql_text.specs.declared.binding.BindFail.{BindFail}
 use Rattle.sql_text.specs.declared.binding.BindFail.TheVariants as fail
-use Rattle.std.proofs.lemmas.List.Elements.{All-nil}
-use Rattle.sql_text.specs.declared.parameters.Parameter.{Parameter}
 use Rattle.std.proofs.lemmas.List.{drop_all, length-map}
-use Rattle.sql_text.specs.declared.pieces.Kind.{Kind}
 use Rattle.sql_text.specs.Spans.{unclosed_at}
-use Rattle.sql_text.specs.Pieces.{token, pieces}
-use Rattle.sql_text.specs.Parameters.{Numbered, is_parameter, parameter_texts, all_fit, all_numbered, has_number, AreApart, views, greatest}
-use Rattle.sql_text.specs.Binding.{numbers_fit, parameters_of, all_expected, first_missing, is_missing, value_given, last_given, number_met, value_of, values_of, or_missing, or_unclosed, numbers_from, bound_values, bound, ValueAs, AnswersAs, StandsFor, RefusesAs}
+use Rattle.sql_text.specs.Pieces.{pieces}
+use Rattle.sql_text.specs.Parameters.{Numbered, parameter_texts, all_fit, all_numbered, has_number, greatest}
+use Rattle.sql_text.specs.Binding.{numbers_fit, parameters_of, all_expected, first_missing, is_missing, value_given, last_given, number_met, value_of, values_of, or_missing, or_unclosed, numbers_from, bound_values, bound, ValueAs, AnswersAs, StandsFor, RefusesAs, HasLast}
 use Rattle.sql_text.proofs.PieceLists.{pieces-nil}
 
 -- what holds while the parameters are read: those to come lead to those of the text, or a number didn't fit
@@ -32,20 +30,12 @@ SoFar false ps sql texts = numbers_fit sql ≡ false
 abbrev pub texts_from : List ℕ → ℕ → List (List ℕ)
 texts_from text at = parameter_texts (pieces (drop at text))
 
-pub texts_from-piece : (k : Kind) (text : List ℕ) (at end : ℕ) → pieces (drop at text) ≡ token k (slice_range text at end) ∷ pieces (drop end text) → texts_from text at ≡ cond (is_parameter k) (slice_range text at end ∷ texts_from text end) (texts_from text end)
-texts_from-piece k text at end stands = ap parameter_texts stands
-
 pub texts_from-end : (text : List ℕ) (at : ℕ) → length text ≤ at → texts_from text at ≡ []
 texts_from-end text at past = ap (λ bytes. parameter_texts (pieces bytes)) (drop_all at text past) ∙ ap parameter_texts pieces-nil
 
-pub apart_none : (ps : List Parameter) → ps ≡ [] → AreApart (views ps)
-unfolding IsDistinct
-apart_none [] is = record { distinct = tt; small = All-nil _ }
-apart_none (p ∷ ps) is = cc is
-
-pub so_far_start : (ps : List Parameter) (sql : List ℕ) → ps ≡ [] → GoesOn (views ps) sql (texts_from sql 0)
-so_far_start [] sql is = record { fit = refl; all = refl }
-so_far_start (p ∷ ps) sql is = cc is
+pub so_far_start : (ps : List Numbered) (sql : List ℕ) → ps ≡ [] → GoesOn ps sql (texts_from sql 0)
+so_far_start [] sql none = record { fit = refl; all = refl }
+so_far_start (p ∷ ps) sql none = cc none
 
 pub so_far_end : (fit : Bool) (ps : List Numbered) (sql : List ℕ) (texts : List (List ℕ)) → fit ≡ true → texts ≡ [] → SoFar fit ps sql texts → (numbers_fit sql ≡ true) × (parameters_of sql ≡ ps)
 so_far_end true ps sql [] is none so_far = (so_far.fit, so_far.all)
@@ -56,28 +46,57 @@ pub so_far_refused : (fit : Bool) (ps : List Numbered) (sql : List ℕ) (texts :
 so_far_refused true ps sql texts is so_far = cc is
 so_far_refused false ps sql texts is so_far = so_far
 
+-- the numbers from one on to the last
+numbers_from-front : (n most : ℕ) → n ≤ most → numbers_from n (most + 1 - n) ≡ n ∷ numbers_from (n + 1) (most + 1 - (n + 1))
+numbers_from-front n most within = let one : most + 1 - n ≡ suc (most + 1 - (n + 1)) = omega arith in ap (numbers_from n) one
+
+-- what holds before a number: the values so far, and that none was missing
+pub record Goes (ps : List Numbered) (args : List Value) (named : List NamedArg) (values : List Value) (left : List ℕ) : Type 0 where
+  pub all_values : values_of ps args named ≡ values ++ map (value_of ps args named) left
+  pub none_missing : first_missing ps args named ≡ find (is_missing ps args named) left
+
 module _ (ps : List Numbered) (args : List Value) (named : List NamedArg) where
   -- a number without a value refuses all, where those before it have theirs
-  pub value_refused : (failure : BindFail) (n : ℕ) (rest : List ℕ) → all_expected ps args named ≡ true → first_missing ps args named ≡ find (is_missing ps args named) (n ∷ rest) → ValueAs (value_given ps args named n) (has_number ps n) n (Err failure) → AnswersAs (Err failure) (bound_values ps args named)
-  value_refused (fail.Missing m) n rest expected missing is =
-      cond-true (all_expected ps args named) (or_missing (first_missing ps args named) (values_of ps args named)) (Err fail.Unexpected) expected
-      ∙ ap (λ o. or_missing o (values_of ps args named)) (missing ∙ cond-true (is_missing ps args named n) (Some n) (find (is_missing ps args named) rest) is.1)
+  value_refused : (failure : BindFail) (n : ℕ) (rest : List ℕ) → first_missing ps args named ≡ find (is_missing ps args named) (n ∷ rest) → ValueAs (value_given ps args named n) (has_number ps n) n (Err failure) → AnswersAs (Err failure) (or_missing (first_missing ps args named) (values_of ps args named))
+  value_refused (fail.Missing m) n rest missing is =
+      ap (λ o. or_missing o (values_of ps args named)) (missing ∙ cond-true (is_missing ps args named n) (Some n) (find (is_missing ps args named) rest) is.1)
       ∙ ap (λ k. Err (fail.Missing k)) (sym is.0)
-  value_refused fail.NoMemory n rest expected missing is = tt
-  value_refused fail.BadNumber n rest expected missing is = absurd is
-  value_refused fail.Unexpected n rest expected missing is = absurd is
-  value_refused (fail.Unclosed at) n rest expected missing is = absurd is
+  value_refused fail.NoMemory n rest missing is = tt
+  value_refused fail.BadNumber n rest missing is = absurd is
+  value_refused fail.Unexpected n rest missing is = absurd is
+  value_refused (fail.Unclosed at) n rest missing is = absurd is
 
   -- a number's value joins those before it
-  pub values_more : (n : ℕ) (rest : List ℕ) (front : List Value) (value : Value) → ValueAs (value_given ps args named n) (has_number ps n) n (Ok value) → front ++ map (value_of ps args named) (n ∷ rest) ≡ (front ++ value ∷ []) ++ map (value_of ps args named) rest
+  values_more : (n : ℕ) (rest : List ℕ) (front : List Value) (value : Value) → ValueAs (value_given ps args named n) (has_number ps n) n (Ok value) → front ++ map (value_of ps args named) (n ∷ rest) ≡ (front ++ value ∷ []) ++ map (value_of ps args named) rest
   values_more n rest front value is = ap (λ v. front ++ v ∷ map (value_of ps args named) rest) (sym is.1) ∙ sym (append_assoc front (value ∷ []) (map (value_of ps args named) rest))
 
-  pub missing_more : (n : ℕ) (rest : List ℕ) (value : Value) → ValueAs (value_given ps args named n) (has_number ps n) n (Ok value) → find (is_missing ps args named) (n ∷ rest) ≡ find (is_missing ps args named) rest
+  missing_more : (n : ℕ) (rest : List ℕ) (value : Value) → ValueAs (value_given ps args named n) (has_number ps n) n (Ok value) → find (is_missing ps args named) (n ∷ rest) ≡ find (is_missing ps args named) rest
   missing_more n rest value is = cond-false (is_missing ps args named n) (Some n) (find (is_missing ps args named) rest) is.0
 
--- the numbers from one on to the last
-pub numbers_from-front : (n most : ℕ) → n ≤ most → numbers_from n (most + 1 - n) ≡ n ∷ numbers_from (n + 1) (most + 1 - (n + 1))
-numbers_from-front n most within = let one : most + 1 - n ≡ suc (most + 1 - (n + 1)) = omega arith in ap (numbers_from n) one
+-- what one number is given, by the table and the positional arguments
+value_given-table : (ps : List Numbered) (args : List Value) (named : List NamedArg) (table : List (Option (Bor Value))) (n place : ℕ) (given : Option (Bor Value)) → place ≡ n → option_copied given ≡ option_or (option_copied (slice_index_or table place None)) (slice_get args (place - 1)) → option_copied (slice_index_or table n None) ≡ last_given ps n None named → option_copied given ≡ value_given ps args named n
+value_given-table ps args named table n place given same is last =
+    is ∙ ap (λ m. option_or (option_copied (slice_index_or table m None)) (slice_get args (m - 1))) same ∙ ap (λ o. option_or o (slice_get args (n - 1))) last
+
+-- what is given to one number, by a table, goes on or refuses
+module _ (ps : List Numbered) (args : List Value) (table : List (Option (Bor Value))) (n most place : ℕ) (given : Option (Bor Value)) (within : n ≤ most) (small : most ≤ MAX_PARAMETERS) (same : place ≡ n) (is : option_copied given ≡ option_or (option_copied (slice_index_or table place None)) (slice_get args (place - 1))) where
+  as_given : (named : List NamedArg) (answer : Result Value BindFail) → HasLast ps named table → ValueAs (option_copied given) (has_number ps n) n answer → ValueAs (value_given ps args named n) (has_number ps n) n answer
+  as_given named answer last = subst (λ o. ValueAs o (has_number ps n) n answer) (value_given-table ps args named table n place given same is (last n (omega arith)))
+
+  pub goes_more : (named : List NamedArg) (values more : List Value) (value : Value) → HasLast ps named table → ValueAs (option_copied given) (has_number ps n) n (Ok value) → more ≡ values ++ value ∷ [] → Goes ps args named values (numbers_from n (most + 1 - n)) → Goes ps args named more (numbers_from (n + 1) (most + 1 - (n + 1)))
+  goes_more named values more value last here pushed goes =
+      let front = numbers_from-front n most within in
+      let rest : List ℕ = numbers_from (n + 1) (most + 1 - (n + 1)) in
+      let value_is = as_given named (Ok value) last here in
+      record {
+        all_values = goes.all_values ∙ ap (λ ns. values ++ map (value_of ps args named) ns) front
+            ∙ values_more ps args named n rest values value value_is ∙ ap (λ vs. vs ++ map (value_of ps args named) rest) (sym pushed);
+        none_missing = goes.none_missing ∙ ap (find (is_missing ps args named)) front ∙ missing_more ps args named n rest value value_is;
+      }
+
+  pub goes_refused : (named : List NamedArg) (values : List Value) (failure : BindFail) → HasLast ps named table → ValueAs (option_copied given) (has_number ps n) n (Err failure) → Goes ps args named values (numbers_from n (most + 1 - n)) → AnswersAs (Err failure) (or_missing (first_missing ps args named) (values_of ps args named))
+  goes_refused named values failure last here goes =
+      value_refused ps args named failure n (numbers_from (n + 1) (most + 1 - (n + 1))) (goes.none_missing ∙ ap (find (is_missing ps args named)) (numbers_from-front n most within)) (as_given named (Err failure) last here)
 
 -- the whole answer, where the parameters were read
 pub bound-read : (sql : List ℕ) (ps : List Numbered) (args : List Value) (named : List NamedArg) → StandsFor sql ps → bound sql args named ≡ bound_values ps args named
@@ -97,11 +116,6 @@ bound-refused sql fail.BadNumber args named is =
 bound-refused sql fail.Unexpected args named is = absurd is
 bound-refused sql (fail.Missing n) args named is = absurd is
 bound-refused sql fail.NoMemory args named is = tt
-
--- what one number is given, by the table and the positional arguments
-pub value_given-table : (ps : List Numbered) (args : List Value) (named : List NamedArg) (table : List (Option (Bor Value))) (n place : ℕ) (given : Option (Bor Value)) → place ≡ n → option_copied given ≡ option_or (option_copied (slice_index_or table place None)) (slice_get args (place - 1)) → option_copied (slice_index_or table n None) ≡ last_given ps n None named → option_copied given ≡ value_given ps args named n
-value_given-table ps args named table n place given same is last =
-    is ∙ ap (λ m. option_or (option_copied (slice_index_or table m None)) (slice_get args (m - 1))) same ∙ ap (λ o. option_or o (slice_get args (n - 1))) last
 
 pub expected_from : (ps : List Numbered) (args : List Value) (named : List NamedArg) → length args ≤ greatest ps → true ≡ list_all (λ arg. is_some (number_met ps arg.name)) named → all_expected ps args named ≡ true
 expected_from ps args named few meet = and_from (nat_le (length args) (greatest ps)) (list_all (λ arg. is_some (number_met ps arg.name)) named) (le-leb (length args) (greatest ps) few) (sym meet)

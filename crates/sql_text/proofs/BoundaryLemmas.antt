@@ -5,8 +5,8 @@ use Rattle.std.specs.Char.{is_ascii_digit}
 use Rattle.std.proofs.lemmas.Bool.{cond_both, and_parts, or_parts, eqb-true, leb-false, not-false}
 use Rattle.std.proofs.lemmas.Bool.Decides.{nat_tests}
 use Rattle.std.proofs.lemmas.List.{get_or_past, get_or-drop}
-use Rattle.sql_text.specs.declared.pieces.Kind.{Kind}
-use Rattle.sql_text.specs.declared.pieces.Kind.TheVariants as kind
+use Rattle.sql_text.specs.declared.pieces.PieceKind.{PieceKind}
+use Rattle.sql_text.specs.declared.pieces.PieceKind.TheVariants as kind
 use Rattle.sql_text.specs.declared.pieces.Piece.{Piece}
 use Rattle.sql_text.specs.declared.pieces.Run.{Run}
 use Rattle.sql_text.specs.declared.pieces.Run.TheVariants as run
@@ -103,7 +103,7 @@ cuts_if rest true piece here = here refl
 cuts_if rest false piece here = tt
 
 -- an end that is found at ASCII, or the end of all
-ended_cuts : (k : Kind) (end : Option ℕ) (at : ℕ) (rest : List ℕ) → IfSome end (Ends at (length (drop at rest))) → IfSome end (λ e. get_or (drop at rest) (e - at - 1) 0 < 128) → Cuts rest (ended k end rest).size
+ended_cuts : (k : PieceKind) (end : Option ℕ) (at : ℕ) (rest : List ℕ) → IfSome end (Ends at (length (drop at rest))) → IfSome end (λ e. get_or (drop at rest) (e - at - 1) 0 < 128) → Cuts rest (ended k end rest).size
 ended_cuts k None at rest ends behind = inl (let past : get_or rest (length rest) 0 ≡ 0 = get_or_past rest (length rest) 0 (omega arith) in omega arith)
 ended_cuts k (Some e) at rest ends behind =
     let same : at + (e - at - 1) ≡ e - 1 = omega (arith, ends.behind) in

@@ -2,8 +2,8 @@
 use Rattle.std.proofs.Common.{◌≡◌, ◌≤◌, ℕ, Bool, true, false, cond, List, [], ◌∷◌, map, length, drop, refl, sym, ap, ◌∙◌}
 use Rattle.std.specs.Prelude.{filter, ◌==◌}
 use Rattle.std.proofs.lemmas.List.{drop_all}
-use Rattle.sql_text.specs.declared.pieces.Kind.{Kind}
-use Rattle.sql_text.specs.declared.pieces.Kind.TheVariants as kind
+use Rattle.sql_text.specs.declared.pieces.PieceKind.{PieceKind}
+use Rattle.sql_text.specs.declared.pieces.PieceKind.TheVariants as kind
 use Rattle.sql_text.specs.declared.class.Keyword.{Keyword}
 use Rattle.sql_text.specs.declared.class.Role.TheVariants as role
 use Rattle.sql_text.specs.Pieces.{Token, token, pieces}
@@ -12,7 +12,7 @@ use Rattle.sql_text.specs.Class.{keyword_of, keyword_of_token, first_part, class
 use Rattle.sql_text.specs.Words.{words, words_by, role_of}
 use Rattle.sql_text.proofs.PieceLists.{pieces-nil}
 
-abbrev kind_of_token : Token → Kind
+abbrev kind_of_token : Token → PieceKind
 kind_of_token t = t.kind
 
 abbrev solid : List Token → List Token
@@ -50,7 +50,7 @@ sign-first : (v : Bool) (t : Token) (tokens : List Token) → words true tokens 
 sign-first true t tokens later first = first
 sign-first false t tokens later first = stands-first t tokens later
 
-begun-step : (k : Kind) (bytes : List ℕ) (tokens : List Token) → words true tokens ≡ begun_words tokens → words true (token k bytes ∷ tokens) ≡ begun_words (token k bytes ∷ tokens)
+begun-step : (k : PieceKind) (bytes : List ℕ) (tokens : List Token) → words true tokens ≡ begun_words tokens → words true (token k bytes ∷ tokens) ≡ begun_words (token k bytes ∷ tokens)
 unfolding words
 begun-step kind.Blank bytes tokens later = later
 begun-step kind.Comment bytes tokens later = later
@@ -61,7 +61,7 @@ begun-step kind.Parameter bytes tokens later = stands-begun (token kind.Paramete
 begun-step kind.Word bytes tokens later = stands-begun (token kind.Word bytes) tokens later
 begun-step kind.Number bytes tokens later = stands-begun (token kind.Number bytes) tokens later
 
-first-step : (k : Kind) (bytes : List ℕ) (tokens : List Token) → words true tokens ≡ begun_words tokens → words false tokens ≡ first_words tokens → words false (token k bytes ∷ tokens) ≡ first_words (token k bytes ∷ tokens)
+first-step : (k : PieceKind) (bytes : List ℕ) (tokens : List Token) → words true tokens ≡ begun_words tokens → words false tokens ≡ first_words tokens → words false (token k bytes ∷ tokens) ≡ first_words (token k bytes ∷ tokens)
 unfolding words
 first-step kind.Blank bytes tokens later first = first
 first-step kind.Comment bytes tokens later first = first
@@ -90,7 +90,7 @@ unfolding class_of_text
 class_of_text-words sql = ap class_of_words (sym (words-first (pieces sql)))
 
 -- the words at a piece
-pub words-piece : (begun : Bool) (tokens : List Token) (k : Kind) (bytes : List ℕ) (rest : List Token) → tokens ≡ token k bytes ∷ rest → words begun tokens ≡ words_by (role_of k) begun (keyword_of k bytes) (words begun rest) (words true rest)
+pub words-piece : (begun : Bool) (tokens : List Token) (k : PieceKind) (bytes : List ℕ) (rest : List Token) → tokens ≡ token k bytes ∷ rest → words begun tokens ≡ words_by (role_of k) begun (keyword_of k bytes) (words begun rest) (words true rest)
 unfolding words
 words-piece begun tokens k bytes rest is = ap (words begun) is
 

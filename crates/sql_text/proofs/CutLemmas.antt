@@ -4,8 +4,8 @@ use Rattle.std.specs.Prelude.{IfSome, unwrap_or, slice_index, nat_lt, ◌==◌, 
 use Rattle.std.specs.Char.{is_ascii_digit}
 use Rattle.std.proofs.lemmas.Bool.{cond-true, cond-false, cases_Bool, and_from, and_left, and_right, ne_eqb, ltb-false}
 use Rattle.std.proofs.lemmas.List.{get_or_past, get_or-take, length-take, drop-take}
-use Rattle.sql_text.specs.declared.pieces.Kind.{Kind}
-use Rattle.sql_text.specs.declared.pieces.Kind.TheVariants as kind
+use Rattle.sql_text.specs.declared.pieces.PieceKind.{PieceKind}
+use Rattle.sql_text.specs.declared.pieces.PieceKind.TheVariants as kind
 use Rattle.sql_text.specs.declared.pieces.Piece.{Piece}
 use Rattle.sql_text.specs.declared.pieces.Run.{Run}
 use Rattle.sql_text.specs.declared.pieces.Run.TheVariants as run
@@ -107,11 +107,11 @@ if_cut : (n : ℕ) (test test' : Bool) (piece piece' : Piece) → test' ≡ test
 if_cut n true test' piece piece' same pieces stands = ap (λ t. cond t (Some piece') None) same ∙ ap Some (pieces stands)
 if_cut n false test' piece piece' same pieces stands = ap (λ t. cond t (Some piece') None) same
 
-ended_cut : (k : Kind) (n : ℕ) (o o' : Option ℕ) (rest : List ℕ) → ((e : ℕ) → o ≡ Some e → e ≤ n → o' ≡ Some e) → Closed n (ended k o rest) → ended k o' (take n rest) ≡ ended k o rest
+ended_cut : (k : PieceKind) (n : ℕ) (o o' : Option ℕ) (rest : List ℕ) → ((e : ℕ) → o ≡ Some e → e ≤ n → o' ≡ Some e) → Closed n (ended k o rest) → ended k o' (take n rest) ≡ ended k o rest
 ended_cut k n None o' rest found closed = cc (closed.1)
 ended_cut k n (Some e) o' rest found closed = ap (λ o. ended k o (take n rest)) (found e refl closed.0)
 
-ended_behind : (k : Kind) (n at count : ℕ) (o : Option ℕ) (rest : List ℕ) → IfSome o (Ends at count) → Closed n (ended k o rest) → at ≤ n
+ended_behind : (k : PieceKind) (n at count : ℕ) (o : Option ℕ) (rest : List ℕ) → IfSome o (Ends at count) → Closed n (ended k o rest) → at ≤ n
 ended_behind k n at count None rest ends closed = cc (closed.1)
 ended_behind k n at count (Some e) rest ends closed = omega (arith, ends.behind, closed.0)
 
@@ -164,7 +164,7 @@ bracketed_cut n rest positive stands =
     (λ closed. let within = bracket_within end n rest closed in bracket_cut end (run_end run.Bracket 1 (drop 1 (take n rest))) n rest (run_cut run.Bracket 1 n rest positive (omega (arith, within.1))) within.0 within.1) stands
 
 -- one byte and the run behind it
-run_form_cut : (k : Kind) (r : Run) (n : ℕ) (rest : List ℕ) → 0 < n → Closed n (sized k (run_end r 1 (drop 1 rest))) → sized k (run_end r 1 (drop 1 (take n rest))) ≡ sized k (run_end r 1 (drop 1 rest))
+run_form_cut : (k : PieceKind) (r : Run) (n : ℕ) (rest : List ℕ) → 0 < n → Closed n (sized k (run_end r 1 (drop 1 rest))) → sized k (run_end r 1 (drop 1 (take n rest))) ≡ sized k (run_end r 1 (drop 1 rest))
 run_form_cut k r n rest positive closed = ap (sized k) (run_cut r 1 n rest positive closed.0)
 
 numbered_parameter_cut : FormCut numbered_parameter

@@ -4,10 +4,10 @@ use Rattle.std.specs.Prelude.{IfSome, unwrap_or, slice_index, nat_lt, ◌==◌, 
 use Rattle.std.specs.Char.{is_ascii_digit}
 use Rattle.std.proofs.lemmas.Bool.{cond_both, and_parts, eqb-true, cases_lt}
 use Rattle.std.proofs.lemmas.List.{get_or_past, length-drop}
-use Rattle.sql_text.specs.declared.pieces.Kind.{Kind}
+use Rattle.sql_text.specs.declared.pieces.PieceKind.{PieceKind}
 use Rattle.sql_text.specs.declared.pieces.Piece.{Piece}
 use Rattle.sql_text.specs.declared.pieces.Run.{Run}
-use Rattle.sql_text.specs.declared.pieces.Kind.TheVariants as kind
+use Rattle.sql_text.specs.declared.pieces.PieceKind.TheVariants as kind
 use Rattle.sql_text.specs.declared.pieces.Run.TheVariants as run
 use Rattle.sql_text.specs.Pieces.{passes, run_end, comment_end, quote_end, blank, line_comment, block_comment, quoted, bracketed, bracket_ended, numbered_parameter, named_parameter, word, number, ended, first_of, sign, first_piece, is_prefix, is_blank, is_quote, is_letter, sized}
 
@@ -65,7 +65,7 @@ quote_end_within q at (b ∷ c ∷ bs) =
     (λ _. cond_both (c == q) (quote_end q (at + 2) bs) (Some (at + 1)) (λ end. IfSome end (Ends at (length (b ∷ c ∷ bs)))) (λ _. ends_two_sooner at (length bs) _ second) (λ _. record { behind = omega arith; near = omega arith }))
     (λ _. ends_sooner at (suc (length bs)) _ first)
 
-ended_within : (k : Kind) (end : Option ℕ) (at : ℕ) (rest : List ℕ) → at ≤ length rest → 0 < length rest → IfSome end (Ends at (length (drop at rest))) → IsWithin (length rest) (ended k end rest)
+ended_within : (k : PieceKind) (end : Option ℕ) (at : ℕ) (rest : List ℕ) → at ≤ length rest → 0 < length rest → IfSome end (Ends at (length (drop at rest))) → IsWithin (length rest) (ended k end rest)
 ended_within k None at rest within nonempty ends = record { positive = nonempty; fits = omega arith }
 ended_within k (Some end) at rest within nonempty ends = record { positive = omega arith; fits = omega (arith, length-drop at rest) }
 
@@ -88,7 +88,7 @@ unfolding blank
 blank_within rest nonempty = fits_if (length rest) (is_blank (slice_index rest 0)) (sized kind.Blank 1) (λ _. record { positive = omega arith; fits = nonempty })
 
 -- a run behind the first bytes
-sized_run_within : (k : Kind) (r : Run) (at : ℕ) (rest : List ℕ) → 0 < at → at ≤ length rest → IsWithin (length rest) (sized k (run_end r at (drop at rest)))
+sized_run_within : (k : PieceKind) (r : Run) (at : ℕ) (rest : List ℕ) → 0 < at → at ≤ length rest → IsWithin (length rest) (sized k (run_end r at (drop at rest)))
 sized_run_within k r at rest positive within = let ends = run_within r at rest positive within in record { positive = ends.0; fits = ends.1 }
 
 -- the second byte is there where it is this one

@@ -4,8 +4,8 @@ use Rattle.std.specs.Prelude.{filter, ◌==◌, slice_range, All}
 use Rattle.std.proofs.lemmas.List.Elements.{All-nil, All-cons}
 use Rattle.std.proofs.lemmas.Bool.{cond-true, cond-false}
 use Rattle.std.proofs.lemmas.List.{drop_all, length-take-le, length-drop, length-append, drop_at, take_at}
-use Rattle.sql_text.specs.declared.pieces.Kind.{Kind}
-use Rattle.sql_text.specs.declared.pieces.Kind.TheVariants as kind
+use Rattle.sql_text.specs.declared.pieces.PieceKind.{PieceKind}
+use Rattle.sql_text.specs.declared.pieces.PieceKind.TheVariants as kind
 use Rattle.sql_text.specs.declared.class.Role.{Role}
 use Rattle.sql_text.specs.declared.class.Role.TheVariants as role
 use Rattle.sql_text.specs.declared.spans.Span.{Span}
@@ -28,7 +28,7 @@ sign_skipped : (v : Bool) → cond v role.Cuts role.Stands ≡ role.Skipped → 
 sign_skipped true is = cc is
 sign_skipped false is = cc is
 
-pub skipped_is : (k : Kind) → role_of k ≡ role.Skipped → is_solid k ≡ false
+pub skipped_is : (k : PieceKind) → role_of k ≡ role.Skipped → is_solid k ≡ false
 skipped_is kind.Blank is = refl
 skipped_is kind.Comment is = refl
 skipped_is kind.Unclosed is = refl
@@ -38,7 +38,7 @@ skipped_is kind.Parameter is = cc is
 skipped_is kind.Word is = cc is
 skipped_is kind.Number is = cc is
 
-pub cuts_is : (k : Kind) → role_of k ≡ role.Cuts → (is_solid k ≡ true) × (is_cut k ≡ true)
+pub cuts_is : (k : PieceKind) → role_of k ≡ role.Cuts → (is_solid k ≡ true) × (is_cut k ≡ true)
 cuts_is (kind.Sign b) is = (refl, sign_cuts (b == 59) is)
 cuts_is kind.Blank is = cc is
 cuts_is kind.Comment is = cc is
@@ -48,7 +48,7 @@ cuts_is kind.Parameter is = cc is
 cuts_is kind.Word is = cc is
 cuts_is kind.Number is = cc is
 
-pub stands_is : (k : Kind) → role_of k ≡ role.Stands → (is_solid k ≡ true) × (is_cut k ≡ false)
+pub stands_is : (k : PieceKind) → role_of k ≡ role.Stands → (is_solid k ≡ true) × (is_cut k ≡ false)
 stands_is (kind.Sign b) is = (refl, sign_stands (b == 59) is)
 stands_is kind.Quoted is = (refl, refl)
 stands_is kind.Parameter is = (refl, refl)
@@ -106,16 +106,16 @@ spans-end (Some span) = refl
 abbrev pub from_place : List ℕ → ℕ → List Placed
 from_place text at = placed at (pieces (drop at text))
 
-abbrev pub placed_piece : Kind → List ℕ → ℕ → ℕ → Placed
+abbrev pub placed_piece : PieceKind → List ℕ → ℕ → ℕ → Placed
 placed_piece k text at end = record { token = token k (slice_range text at end); start = at }
 
 length-slice_range : (text : List ℕ) (at end : ℕ) → end ≤ length text → length (slice_range text at end) ≡ end - at
 length-slice_range text at end within = length-take-le (end - at) (drop at text) (omega (arith, length-drop at text))
 
-pub end_of-placed_piece : (k : Kind) (text : List ℕ) (at end : ℕ) → at < end → end ≤ length text → end_of (placed_piece k text at end) ≡ end
+pub end_of-placed_piece : (k : PieceKind) (text : List ℕ) (at end : ℕ) → at < end → end ≤ length text → end_of (placed_piece k text at end) ≡ end
 end_of-placed_piece k text at end later within = omega (arith, length-slice_range text at end within)
 
-pub from_place-piece : (k : Kind) (text : List ℕ) (at end : ℕ) → at < end → end ≤ length text → pieces (drop at text) ≡ token k (slice_range text at end) ∷ pieces (drop end text) → from_place text at ≡ placed_piece k text at end ∷ from_place text end
+pub from_place-piece : (k : PieceKind) (text : List ℕ) (at end : ℕ) → at < end → end ≤ length text → pieces (drop at text) ≡ token k (slice_range text at end) ∷ pieces (drop end text) → from_place text at ≡ placed_piece k text at end ∷ from_place text end
 from_place-piece k text at end later within stands =
     ap (placed at) stands ∙ ap (λ e. placed_piece k text at end ∷ placed e (pieces (drop end text))) (end_of-placed_piece k text at end later within)
 

@@ -7,8 +7,8 @@ use Rattle.std.proofs.lemmas.List.Concat.{flat_map-append}
 use Rattle.std.proofs.lemmas.List.Elements.{All-nil, All-cons, All-head, All-tail}
 use Rattle.hrana_value.specs.declared.value.Value.{Value}
 use Rattle.hrana_stmt.specs.declared.statements.NamedArg.{NamedArg}
-use Rattle.sql_text.specs.declared.pieces.Kind.{Kind}
-use Rattle.sql_text.specs.declared.pieces.Kind.TheVariants as kind
+use Rattle.sql_text.specs.declared.pieces.PieceKind.{PieceKind}
+use Rattle.sql_text.specs.declared.pieces.PieceKind.TheVariants as kind
 use Rattle.sql_text.specs.declared.class.Keyword.{Keyword}
 use Rattle.sql_text.specs.declared.class.Role.{Role}
 use Rattle.sql_text.specs.declared.class.Role.TheVariants as role
@@ -109,7 +109,7 @@ unfolding words
 words_after begun [] after quiet = words_quiet begun after quiet
 words_after begun (t ∷ tokens) after quiet = ap₂ (words_by (role_of t.kind) begun (keyword_of_token t)) (words_after begun tokens after quiet) (words_after true tokens after quiet)
 
-quiet_parameter : (k : Kind) → (role_of k ≡ role.Stands → ⊥) → is_parameter k ≡ false
+quiet_parameter : (k : PieceKind) → (role_of k ≡ role.Stands → ⊥) → is_parameter k ≡ false
 quiet_parameter kind.Blank quiet = refl
 quiet_parameter kind.Comment quiet = refl
 quiet_parameter kind.Quoted quiet = refl

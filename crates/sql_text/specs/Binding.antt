@@ -1,15 +1,17 @@
 -- The values that arguments give the parameters of a text.
-use Rattle.std.specs.Prelude.{◌==◌, ◌+◌, ◌-◌, ◌≡◌, ℕ, zero, suc, nat_le, Bool, true, false, ◌&&◌, List, [], ◌∷◌, length, map, drop, slice_index, slice_get, Option, Some, None, Result, Ok, Err, is_some, is_none, unwrap_or, if◌then◌else◌}
-use Rattle.std.specs.Option.{option_or}
+use Rattle.std.specs.Prelude.{◌==◌, ◌+◌, ◌-◌, ◌≡◌, ◌≤◌, ℕ, zero, suc, nat_le, Bool, true, false, ◌&&◌, List, [], ◌∷◌, length, map, drop, slice_index, slice_index_or, slice_get, Option, Some, None, Result, Ok, Err, is_some, is_none, unwrap_or, if◌then◌else◌}
+use Rattle.std.specs.Option.{option_or, option_copied}
+use Rattle.std.specs.Borrow.{Bor}
 use Rattle.std.specs.List.{list_all, find}
 use Rattle.hrana_value.specs.declared.value.Value.{Value}
 use Rattle.hrana_value.specs.declared.value.Value.TheVariants.{Null}
 use Rattle.hrana_stmt.specs.declared.statements.NamedArg.{NamedArg}
+use Rattle.sql_text.specs.declared.limits.TheConstants.{MAX_PARAMETERS}
 use Rattle.sql_text.specs.declared.binding.BindFail.{BindFail}
 use Rattle.sql_text.specs.declared.binding.BindFail.TheVariants as fail
 use Rattle.sql_text.specs.Pieces.{pieces, is_prefix}
 use Rattle.sql_text.specs.Spans.{unclosed_at}
-use Rattle.sql_text.specs.Parameters.{Numbered, parameter_texts, all_fit, all_numbered, greatest, has_number, number_of_name, AreApart}
+use Rattle.sql_text.specs.Parameters.{Numbered, parameter_texts, all_fit, all_numbered, greatest, has_number, number_of_name}
 
 -- A name with its sign meets the parameter of that name. Another is tried behind `:`, then `@`, then `$`.
 abbrev pub number_met : List Numbered → List ℕ → Option ℕ
@@ -25,6 +27,10 @@ is_number (Some m) n = m == n
 abbrev pub last_given : List Numbered → ℕ → Option Value → List NamedArg → Option Value
 last_given ps n given [] = given
 last_given ps n given (arg ∷ args) = last_given ps n (if is_number (number_met ps arg.name) n then Some arg.value else given) args
+
+-- a table has by number what named arguments gave
+abbrev pub HasLast : List Numbered → List NamedArg → List (Option (Bor Value)) → Type 0
+HasLast ps named table = (n : ℕ) → n ≤ MAX_PARAMETERS → option_copied (slice_index_or table n None) ≡ last_given ps n None named
 
 -- the value of a number: that of the last named argument that meets it, else the positional argument of that number
 abbrev pub value_given : List Numbered → List Value → List NamedArg → ℕ → Option Value
@@ -72,7 +78,7 @@ bound_values ps args named =
 abbrev pub parameters_of : List ℕ → List Numbered
 parameters_of sql = all_numbered [] (parameter_texts (pieces sql))
 
--- whether the numbers of a text's parameters are all from 1 to 256
+-- whether the numbers of a text's parameters are all from 1 to the most
 abbrev pub numbers_fit : List ℕ → Bool
 numbers_fit sql = all_fit [] (parameter_texts (pieces sql))
 
@@ -89,33 +95,24 @@ bound sql args named =
 
 -- an answer is the expected one, unless memory ran out
 abbrev pub AnswersAs : Result (List Value) BindFail → Result (List Value) BindFail → Type 0
-AnswersAs (Ok values) expected = expected ≡ Ok values
-AnswersAs (Err (fail.Unclosed at)) expected = expected ≡ Err (fail.Unclosed at)
-AnswersAs (Err fail.BadNumber) expected = expected ≡ Err fail.BadNumber
-AnswersAs (Err fail.Unexpected) expected = expected ≡ Err fail.Unexpected
-AnswersAs (Err (fail.Missing n)) expected = expected ≡ Err (fail.Missing n)
 AnswersAs (Err fail.NoMemory) expected = Unit {0}
+AnswersAs answer expected = expected ≡ answer
 
 -- the parameters read are those of the text, all of whose pieces are closed and numbers fit
 pub record StandsFor (sql : List ℕ) (ps : List Numbered) : Type 0 where
   pub closed : unclosed_at sql ≡ None
   pub fit : numbers_fit sql ≡ true
   pub all : parameters_of sql ≡ ps
-  pub apart : AreApart ps
 
 -- the text is refused in this way, whatever the arguments
 abbrev pub RefusesAs : List ℕ → BindFail → Type 0
 RefusesAs sql (fail.Unclosed at) = unclosed_at sql ≡ Some at
 RefusesAs sql fail.BadNumber = (unclosed_at sql ≡ None) × (numbers_fit sql ≡ false)
-RefusesAs sql fail.Unexpected = ⊥
-RefusesAs sql (fail.Missing n) = ⊥
-RefusesAs sql fail.NoMemory = ⊥
+RefusesAs sql failure = ⊥
 
 -- what one number is given: the value, or why there is none
 abbrev pub ValueAs : Option Value → Bool → ℕ → Result Value BindFail → Type 0
 ValueAs given occurs n (Ok value) = ((is_none given && occurs) ≡ false) × (value ≡ unwrap_or given Null)
-ValueAs given occurs n (Err (fail.Unclosed at)) = ⊥
-ValueAs given occurs n (Err fail.BadNumber) = ⊥
-ValueAs given occurs n (Err fail.Unexpected) = ⊥
 ValueAs given occurs n (Err (fail.Missing m)) = (m ≡ n) × ((is_none given && occurs) ≡ true)
 ValueAs given occurs n (Err fail.NoMemory) = Unit {0}
+ValueAs given occurs n (Err failure) = ⊥

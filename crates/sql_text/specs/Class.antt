@@ -1,8 +1,8 @@
 -- The class of a text, by the words of its first part.
 use Rattle.std.specs.Prelude.{ℕ, Bool, List, [], ◌∷◌, map, codes, if◌then◌else◌}
 use Rattle.std.specs.Str.{str_eq_ignore_ascii_case}
-use Rattle.sql_text.specs.declared.pieces.Kind.{Kind}
-use Rattle.sql_text.specs.declared.pieces.Kind.TheVariants as kind
+use Rattle.sql_text.specs.declared.pieces.PieceKind.{PieceKind}
+use Rattle.sql_text.specs.declared.pieces.PieceKind.TheVariants as kind
 use Rattle.sql_text.specs.declared.class.Class.{Class}
 use Rattle.sql_text.specs.declared.class.Class.TheVariants as class
 use Rattle.sql_text.specs.declared.class.Mode.TheVariants as mode
@@ -50,7 +50,7 @@ or_keyword keyword.Other second = second
 or_keyword first second = first
 
 -- which word a piece is; only a piece that is a word can be one that counts
-abbrev pub keyword_of : Kind → List ℕ → Keyword
+abbrev pub keyword_of : PieceKind → List ℕ → Keyword
 keyword_of kind.Word bytes = or_keyword (transaction_keyword bytes) (statement_keyword bytes)
 keyword_of k bytes = keyword.Other
 

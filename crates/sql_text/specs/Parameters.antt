@@ -1,21 +1,16 @@
 -- The parameters of a text and their numbers, off the list of its pieces.
-use Rattle.std.specs.Prelude.{◌==◌, ◌+◌, ◌-◌, ◌*◌, ◌<◌, ℕ, max, nat_lt, nat_eq, Bool, true, false, ◌&&◌, List, [], ◌∷◌, ◌++◌, map, drop, slice_index, Option, Some, None, unwrap_or, if◌then◌else◌, All}
-use Rattle.std.specs.List.{list_any, IsDistinct}
+use Rattle.std.specs.Prelude.{◌≡◌, ◌==◌, ◌+◌, ◌-◌, ◌*◌, ◌≤◌, ℕ, max, nat_lt, nat_le, Bool, true, false, ◌&&◌, List, [], ◌∷◌, length, map, drop, slice_index, Option, Some, None, unwrap_or, if◌then◌else◌, All}
+use Rattle.std.specs.List.{list_any}
+use Rattle.std.specs.Borrow.{Bor}
 use Rattle.std.specs.Str.{bytes_eq}
-use Rattle.sql_text.specs.declared.pieces.Kind.{Kind}
-use Rattle.sql_text.specs.declared.pieces.Kind.TheVariants as kind
-use Rattle.sql_text.specs.declared.parameters.Parameter.{Parameter}
+use Rattle.sql_text.specs.declared.pieces.PieceKind.{PieceKind}
+use Rattle.sql_text.specs.declared.pieces.PieceKind.TheVariants as kind
+use Rattle.sql_text.specs.declared.limits.TheConstants.{MAX_PARAMETERS}
 use Rattle.sql_text.specs.Pieces.{Token}
 
-abbrev pub is_parameter : Kind → Bool
-is_parameter kind.Blank = false
-is_parameter kind.Comment = false
-is_parameter kind.Quoted = false
+abbrev pub is_parameter : PieceKind → Bool
 is_parameter kind.Parameter = true
-is_parameter kind.Word = false
-is_parameter kind.Number = false
-is_parameter (kind.Sign b) = false
-is_parameter kind.Unclosed = false
+is_parameter k = false
 
 -- the texts of the parameters, in the order of the text
 abbrev pub parameter_texts : List Token → List (List ℕ)
@@ -23,7 +18,7 @@ parameter_texts [] = []
 parameter_texts (t ∷ tokens) = if is_parameter t.kind then t.bytes ∷ parameter_texts tokens else parameter_texts tokens
 
 -- A parameter that came first with its number: the number, the sign before the name, and the name. Behind a `?` there
--- is no name, but perhaps digits.
+-- is no name, but perhaps digits. Parameters are listed in the order of their numbers.
 pub record Numbered : Type 0 where
   pub number : ℕ
   pub prefix : ℕ
@@ -42,6 +37,10 @@ has_number ps n = list_any (λ p. p.number == n) ps
 
 abbrev pub is_named : ℕ → List ℕ → Numbered → Bool
 is_named prefix name p = p.prefix == prefix && bytes_eq p.name name
+
+-- whether a text, perhaps an empty one, is a name behind a sign
+abbrev pub is_name : ℕ → List ℕ → List ℕ → Bool
+is_name prefix name text = nat_lt 0 (length text) && (slice_index text 0 == prefix && bytes_eq (drop 1 text) name)
 
 -- the number of a name behind a sign; names compare byte by byte
 abbrev pub number_of_name : ℕ → List ℕ → List Numbered → Option ℕ
@@ -67,16 +66,21 @@ number_taken seen text =
 abbrev pub numbered : ℕ → List ℕ → Numbered
 numbered n text = record { number = n; prefix = slice_index text 0; name = drop 1 text }
 
--- the parameters so far, and one that has a new number
+-- one more, in the order of the numbers
+abbrev pub inserted : Numbered → List Numbered → List Numbered
+inserted p [] = p ∷ []
+inserted p (q ∷ qs) = if nat_lt p.number q.number then p ∷ q ∷ qs else q ∷ inserted p qs
+
+-- the parameters so far, and one if its number is new
 abbrev pub with_number : List Numbered → ℕ → List ℕ → List Numbered
-with_number seen n text = if has_number seen n then seen else seen ++ numbered n text ∷ []
+with_number seen n text = if has_number seen n then seen else inserted (numbered n text) seen
 
 abbrev pub with_parameter : List Numbered → List ℕ → List Numbered
 with_parameter seen text = with_number seen (number_taken seen text) text
 
--- a number from 1 to 256
+-- a number from 1 to the most
 abbrev pub fits : ℕ → Bool
-fits n = nat_lt 0 n && nat_lt n 257
+fits n = nat_lt 0 n && nat_le n MAX_PARAMETERS
 
 -- a number, if it fits
 abbrev pub number_within : ℕ → Option ℕ
@@ -96,17 +100,19 @@ abbrev pub all_numbered : List Numbered → List (List ℕ) → List Numbered
 all_numbered seen [] = seen
 all_numbered seen (text ∷ texts) = all_numbered (with_parameter seen text) texts
 
--- a parameter without where its name lies in memory
-abbrev pub view : Parameter → Numbered
-view p = record { number = p.number; prefix = p.prefix; name = p.name.now }
+-- the parameters of a table that has from some number on the text that came first with each, or nothing
+abbrev pub table_from : ℕ → List (List ℕ) → List Numbered
+table_from n [] = []
+table_from n ([] ∷ texts) = table_from (n + 1) texts
+table_from n ((b ∷ bs) ∷ texts) = numbered n (b ∷ bs) ∷ table_from (n + 1) texts
 
-abbrev pub views : List Parameter → List Numbered
-views ps = map view ps
+-- the texts of a table, without where they lie in memory
+abbrev pub texts_of : List (Bor (List ℕ)) → List (List ℕ)
+texts_of texts = map (λ text. text.now) texts
 
-abbrev pub numbers_of : List Numbered → List ℕ
-numbers_of ps = map (λ p. p.number) ps
-
--- no two have one number, and each number is below 257
-pub record AreApart (ps : List Numbered) : Type 0 where
-  pub distinct : IsDistinct nat_eq (numbers_of ps)
-  pub small : All (λ p. p.number < 257) ps
+-- what is kept beside a table of parameters: their greatest number, and whether any may have a name
+pub record IsKept (most : ℕ) (are_named : Bool) (texts : List (List ℕ)) : Type 0 where
+  pub small : most ≤ MAX_PARAMETERS
+  pub is_greatest : most ≡ greatest (table_from 0 texts)
+  pub past : table_from (most + 1) (drop (most + 1) texts) ≡ []
+  pub unnamed : are_named ≡ false → All (λ p. p.prefix ≡ 63) (table_from 0 texts)

@@ -1,32 +1,22 @@
 -- The parts of a text: its pieces cut at each sign `;`, without blanks and comments, and without the parts in which
 -- nothing else stands. An unclosed piece doesn't count.
 use Rattle.std.specs.Prelude.{◌==◌, Bool, true, false, List, [], ◌∷◌, filter, if◌then◌else◌}
-use Rattle.sql_text.specs.declared.pieces.Kind.{Kind}
-use Rattle.sql_text.specs.declared.pieces.Kind.TheVariants as kind
+use Rattle.sql_text.specs.declared.pieces.PieceKind.{PieceKind}
+use Rattle.sql_text.specs.declared.pieces.PieceKind.TheVariants as kind
 
 -- neither blank nor comment, and closed
-abbrev pub is_solid : Kind → Bool
+abbrev pub is_solid : PieceKind → Bool
 is_solid kind.Blank = false
 is_solid kind.Comment = false
-is_solid kind.Quoted = true
-is_solid kind.Parameter = true
-is_solid kind.Word = true
-is_solid kind.Number = true
-is_solid (kind.Sign b) = true
 is_solid kind.Unclosed = false
+is_solid k = true
 
 -- the sign `;`
-abbrev pub is_cut : Kind → Bool
-is_cut kind.Blank = false
-is_cut kind.Comment = false
-is_cut kind.Quoted = false
-is_cut kind.Parameter = false
-is_cut kind.Word = false
-is_cut kind.Number = false
+abbrev pub is_cut : PieceKind → Bool
 is_cut (kind.Sign b) = b == 59
-is_cut kind.Unclosed = false
+is_cut k = false
 
-module _ {A : Type 0} (kind_of : A → Kind) where
+module _ {A : Type 0} (kind_of : A → PieceKind) where
   -- one more piece at the front of the first part
   abbrev pub with_front : A → List (List A) → List (List A)
   with_front x [] = (x ∷ []) ∷ []

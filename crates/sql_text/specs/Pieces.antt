@@ -4,8 +4,8 @@
 use Rattle.std.specs.Prelude.{◌≡◌, ◌==◌, ◌<◌, ◌+◌, ◌-◌, ℕ, suc, zero, Bool, ◌&&◌, ◌||◌, not, nat_le, nat_lt, List, [], ◌∷◌, length, take, drop, slice_index, Option, None, Some, if◌then◌else◌, unwrap_or}
 use Rattle.std.specs.List.{flat_map}
 use Rattle.std.specs.Char.{is_ascii_digit, is_ascii_alphabetic}
-use Rattle.sql_text.specs.declared.pieces.Kind.{Kind}
-use Rattle.sql_text.specs.declared.pieces.Kind.TheVariants as kind
+use Rattle.sql_text.specs.declared.pieces.PieceKind.{PieceKind}
+use Rattle.sql_text.specs.declared.pieces.PieceKind.TheVariants as kind
 use Rattle.sql_text.specs.declared.pieces.Piece.{Piece}
 use Rattle.sql_text.specs.declared.pieces.Run.{Run}
 use Rattle.sql_text.specs.declared.pieces.Run.TheVariants as run
@@ -44,11 +44,11 @@ quote_end q at (b ∷ c ∷ bs) =
     if b == q then (if c == q then quote_end q (at + 2) bs else Some (at + 1))
     else quote_end q (at + 1) (c ∷ bs)
 
-abbrev pub sized : Kind → ℕ → Piece
+abbrev pub sized : PieceKind → ℕ → Piece
 sized k n = record { kind = k; size = n }
 
 -- a piece of this kind that ends at a place, or one that isn't closed, which takes all that is left
-abbrev pub ended : Kind → Option ℕ → List ℕ → Piece
+abbrev pub ended : PieceKind → Option ℕ → List ℕ → Piece
 ended k (Some end) rest = sized k end
 ended k None rest = sized kind.Unclosed (length rest)
 
@@ -137,10 +137,10 @@ first_piece rest = unwrap_or (first_of (forms rest)) (sign rest)
 
 -- a piece with its bytes
 pub record Token : Type 0 where
-  pub kind : Kind
+  pub kind : PieceKind
   pub bytes : List ℕ
 
-abbrev pub token : Kind → List ℕ → Token
+abbrev pub token : PieceKind → List ℕ → Token
 token kind bytes = record { kind = kind; bytes = bytes }
 
 -- the piece at the front of the bytes, with its own bytes

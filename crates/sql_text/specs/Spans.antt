@@ -1,8 +1,8 @@
 -- Where the pieces of a text stand, the spans of its parts, and the first piece that isn't closed.
 use Rattle.std.specs.Prelude.{◌≡◌, ◌<◌, ◌≤◌, ◌+◌, ℕ, Bool, true, false, List, [], ◌∷◌, map, length, Option, Some, None, if◌then◌else◌, slice_range, All}
 use Rattle.std.specs.Str.{IsCharBoundary}
-use Rattle.sql_text.specs.declared.pieces.Kind.{Kind}
-use Rattle.sql_text.specs.declared.pieces.Kind.TheVariants as kind
+use Rattle.sql_text.specs.declared.pieces.PieceKind.{PieceKind}
+use Rattle.sql_text.specs.declared.pieces.PieceKind.TheVariants as kind
 use Rattle.sql_text.specs.declared.spans.Span.{Span}
 use Rattle.sql_text.specs.Pieces.{Token, pieces}
 use Rattle.sql_text.specs.Parts.{parts}
@@ -20,7 +20,7 @@ placed at (token ∷ tokens) = record { token = token; start = at } ∷ placed (
 abbrev pub end_of : Placed → ℕ
 end_of p = p.start + length p.token.bytes
 
-abbrev pub kind_of : Placed → Kind
+abbrev pub kind_of : Placed → PieceKind
 kind_of p = p.token.kind
 
 -- the end of the last piece, or the end of what comes before
@@ -40,15 +40,9 @@ placed_pieces sql = placed 0 (pieces sql)
 unfoldable pub spans_of : List ℕ → List Span
 spans_of sql = map span_of (parts kind_of (placed_pieces sql))
 
-abbrev pub is_unclosed : Kind → Bool
-is_unclosed kind.Blank = false
-is_unclosed kind.Comment = false
-is_unclosed kind.Quoted = false
-is_unclosed kind.Parameter = false
-is_unclosed kind.Word = false
-is_unclosed kind.Number = false
-is_unclosed (kind.Sign b) = false
+abbrev pub is_unclosed : PieceKind → Bool
 is_unclosed kind.Unclosed = true
+is_unclosed k = false
 
 -- the place of the first piece that isn't closed
 abbrev pub first_unclosed : List Placed → Option ℕ

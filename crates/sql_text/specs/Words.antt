@@ -1,7 +1,7 @@
 -- The words of a part as they come, piece by piece.
 use Rattle.std.specs.Prelude.{◌==◌, Bool, true, false, List, [], ◌∷◌, Option, Some, None, if◌then◌else◌}
-use Rattle.sql_text.specs.declared.pieces.Kind.{Kind}
-use Rattle.sql_text.specs.declared.pieces.Kind.TheVariants as kind
+use Rattle.sql_text.specs.declared.pieces.PieceKind.{PieceKind}
+use Rattle.sql_text.specs.declared.pieces.PieceKind.TheVariants as kind
 use Rattle.sql_text.specs.declared.class.Keyword.{Keyword}
 use Rattle.sql_text.specs.declared.class.Role.{Role}
 use Rattle.sql_text.specs.declared.class.Role.TheVariants as role
@@ -9,15 +9,12 @@ use Rattle.sql_text.specs.Pieces.{Token}
 use Rattle.sql_text.specs.Class.{keyword_of_token}
 
 -- blanks and comments are passed over, a `;` cuts
-abbrev pub role_of : Kind → Role
+abbrev pub role_of : PieceKind → Role
 role_of kind.Blank = role.Skipped
 role_of kind.Comment = role.Skipped
-role_of kind.Quoted = role.Stands
-role_of kind.Parameter = role.Stands
-role_of kind.Word = role.Stands
-role_of kind.Number = role.Stands
-role_of (kind.Sign b) = if b == 59 then role.Cuts else role.Stands
 role_of kind.Unclosed = role.Skipped
+role_of (kind.Sign b) = if b == 59 then role.Cuts else role.Stands
+role_of k = role.Stands
 
 -- a word more by its piece's role: `same` are the words of the rest as before it, `next` those within its part
 abbrev pub words_by : Role → Bool → Keyword → List Keyword → List Keyword → List Keyword

@@ -1,19 +1,16 @@
 // The values that arguments give the parameters of a text.
-ghost use Rattle.std.specs.Prelude.{◌≡◌, ◌<◌, ◌≤◌, ◌+◌, ◌-◌, ℕ, List, None, length, is_some, slice_index_or, slice_get, IfOk, IfErr, IfSome, IsTrue, Ok};
+ghost use Rattle.std.specs.Prelude.{◌≡◌, ◌<◌, ◌≤◌, ◌+◌, ◌-◌, ℕ, List, [], None, length, is_some, slice_index_or, slice_get, IfOk, IfErr, IfSome, IsTrue, Ok, OnOk};
 ghost use Rattle.std.specs.Bool.{OnTrue};
 ghost use Rattle.std.specs.Option.{option_or, option_copied};
 ghost use Rattle.std.specs.List.{list_all};
-ghost use Rattle.sql_text.specs.Pieces.{pieces, is_prefix};
-ghost use Rattle.sql_text.specs.Spans.{unclosed_at};
-ghost use Rattle.sql_text.specs.Parameters.{views, is_parameter, has_number, greatest, AreApart};
-ghost use Rattle.sql_text.specs.Binding.{number_met, last_given, value_given, is_missing, value_of, first_missing, values_of, all_expected, bound_values, parameters_of, numbers_fit, bound, AnswersAs, StandsFor, RefusesAs, ValueAs};
+ghost use Rattle.hrana_stmt.specs.declared.statements.NamedArg.{NamedArg};
+ghost use Rattle.sql_text.specs.Parameters.{is_parameter, has_number, greatest};
+ghost use Rattle.sql_text.specs.Binding.{number_met, first_missing, values_of, or_missing, bound_values, parameters_of, bound, AnswersAs, StandsFor, RefusesAs, ValueAs, HasLast};
 
-use crate::parameters::{
-    MOST, Parameter, Parameters, greatest, has_number, number_of_name, take_next,
-};
-use crate::pieces::{Kind, is_prefix, piece_at};
+use crate::limits::MAX_PARAMETERS;
+use crate::parameters::{PLACES, Parameters, take_next};
+use crate::pieces::{PieceKind, is_prefix, piece_at};
 use crate::spans::is_unclosed;
-use arrayvec::ArrayVec;
 use hrana_stmt::NamedArg;
 use hrana_value::{NoMemory, Value, Values};
 use std::alloc::Global;
@@ -23,7 +20,7 @@ use std::alloc::Global;
 pub enum BindFail {
     /// The quote or comment that starts at this byte has no end.
     Unclosed { at: usize },
-    /// A parameter's number would be 0 or above 256.
+    /// A parameter's number would be 0 or above the most.
     BadNumber,
     /// There are more positional arguments than numbers, or a named argument meets no parameter.
     Unexpected,
@@ -32,21 +29,29 @@ pub enum BindFail {
     NoMemory,
 }
 
-fn is_parameter(kind: Kind) -> bool
-    ensures { result ≡ is_parameter kind }
-{
-    match kind {
-        Kind::Parameter => true,
-        _ => false,
+impl From<NoMemory> for BindFail {
+    ghost use Rattle.std.specs.Prelude.{◌≡◌};
+    ghost use Rattle.sql_text.specs.declared.binding.BindFail.TheVariants.{NoMemory as OutOfMemory};
+
+    ghost from_gives = { λ _ e. e ≡ OutOfMemory };
+
+    fn from(_: NoMemory) -> Self {
+        BindFail::NoMemory
     }
 }
 
-/// The parameters of a text, in one pass over its pieces.
-fn read_parameters<'a>(text: &'a [u8]) -> Result<Parameters<'a>, BindFail>
-    ensures ok { IfOk result (λ parameters. StandsFor text.now (views parameters.items)) }
+fn is_parameter(kind: PieceKind) -> bool
+    ensures { result ≡ is_parameter kind }
+{
+    matches!(kind, PieceKind::Parameter)
+}
+
+/// Reads the parameters of a text, in one pass over its pieces.
+fn read_parameters<'a>(text: &'a [u8], parameters: &mut Parameters<'a>) -> Result<(), BindFail>
+    requires empty { parameters.old ≡ [] }
+    ensures ok { OnOk result (StandsFor text.now parameters.new) }
     ensures refused { IfErr result (RefusesAs text.now) }
 {
-    let mut parameters = Parameters::new();
     let mut fit = true;
     let mut at = 0;
     while at < text.len() {
@@ -55,44 +60,44 @@ fn read_parameters<'a>(text: &'a [u8]) -> Result<Parameters<'a>, BindFail>
             return Err(BindFail::Unclosed { at });
         }
         if fit && is_parameter(piece.kind) {
-            fit = take_next(&mut parameters, &text[at..piece.end]);
+            fit = take_next(parameters, &text[at..piece.end]);
         }
         at = piece.end;
     }
     if fit {
-        Ok(parameters)
+        Ok(())
     } else {
         Err(BindFail::BadNumber)
     }
 }
 
 /// The number of the parameter that a named argument meets.
-fn number_met(parameters: &[Parameter], name: &[u8]) -> Option<u16>
-    ensures { result ≡ number_met (views parameters.now) name.now }
+fn number_met(parameters: &Parameters, name: &[u8]) -> Option<u16>
+    ensures number { result ≡ number_met parameters.now name.now }
+    ensures small { IfSome result (λ n. n ≤ MAX_PARAMETERS) }
 {
     if !name.is_empty() && is_prefix(name[0]) {
-        return number_of_name(name[0], &name[1..], parameters);
+        return parameters.number_of_name(name[0], &name[1..]);
     }
-    if let Some(number) = number_of_name(b':', name, parameters) {
+    if let Some(number) = parameters.number_of_name(b':', name) {
         return Some(number);
     }
-    if let Some(number) = number_of_name(b'@', name, parameters) {
+    if let Some(number) = parameters.number_of_name(b'@', name) {
         return Some(number);
     }
-    number_of_name(b'$', name, parameters)
+    parameters.number_of_name(b'$', name)
 }
 
 /// Notes for each number the value of the last named argument that meets it. Says whether each argument meets one.
 fn note_named<'a>(
-    parameters: &[Parameter],
+    parameters: &Parameters,
     named: &'a [NamedArg],
     table: &mut [Option<&'a Value>],
 ) -> bool
-    requires apart { AreApart (views parameters.now) }
-    requires room { length table.old ≡ 257 }
-    requires empty { (n : ℕ) → n < 257 → slice_index_or table.old n None ≡ None }
-    ensures all_meet { result ≡ list_all (λ arg. is_some (number_met (views parameters.now) arg.name)) named.now }
-    ensures last { OnTrue result ((n : ℕ) → n < 257 → option_copied (slice_index_or table.new n None) ≡ last_given (views parameters.now) n None named.now) }
+    requires room { length table.old ≡ MAX_PARAMETERS + 1 }
+    requires empty { (n : ℕ) → n ≤ MAX_PARAMETERS → slice_index_or table.old n None ≡ None }
+    ensures all_meet { result ≡ list_all (λ arg. is_some (number_met parameters.now arg.name)) named.now }
+    ensures last { OnTrue result (HasLast parameters.now named.now table.new) }
 {
     for arg in named {
         let Some(number) = number_met(parameters, arg.name.as_str().as_bytes()) else {
@@ -106,19 +111,17 @@ fn note_named<'a>(
 /// The value of one number, where it has one, or null where the number doesn't occur.
 fn value_of(
     alloc: Global,
-    parameters: &[Parameter],
+    parameters: &Parameters,
     given: Option<&Value>,
     number: u16,
 ) -> Result<Value, BindFail>
-    ensures { ValueAs (option_copied given.entry) (has_number (views parameters.now) number) number result }
+    requires { number ≤ MAX_PARAMETERS }
+    ensures { ValueAs (option_copied given.entry) (has_number parameters.now number) number result }
 {
     match given {
-        Some(value) => match value.copy(alloc) {
-            Ok(value) => Ok(value),
-            Err(_) => Err(BindFail::NoMemory),
-        },
+        Some(value) => Ok(value.copy(alloc)?),
         None => {
-            if has_number(parameters, number) {
+            if parameters.has_number(number) {
                 Err(BindFail::Missing(number))
             } else {
                 Ok(Value::Null)
@@ -127,49 +130,59 @@ fn value_of(
     }
 }
 
-/// What a named argument gave, or else the positional argument of a number.
+/// What a table gives a number, or else its positional argument.
 fn value_given<'a>(
     table: &[Option<&'a Value>],
     args: &'a [Value],
     number: usize,
 ) -> Option<&'a Value>
-    requires within { number < length table.now }
     requires some { 0 < number }
     ensures { option_copied result ≡ option_or (option_copied (slice_index_or table.now number None)) (slice_get args.now (number - 1)) }
 {
-    match table[number] {
-        Some(value) => Some(value),
-        None => args.get(number - 1),
+    match table.get(number) {
+        Some(Some(value)) => Some(value),
+        _ => args.get(number - 1),
     }
 }
 
-/// The values of numbered parameters.
+/// The values of numbered parameters, where a table has by number what named arguments gave.
+fn values_by(
+    alloc: Global,
+    parameters: &Parameters,
+    args: &[Value],
+    table: &[Option<&Value>],
+) -> Result<Values, BindFail>
+    ensures { (named : List NamedArg) → HasLast parameters.now named table.now → AnswersAs result (or_missing (first_missing parameters.now args.now named) (values_of parameters.now args.now named)) }
+{
+    let most = parameters.greatest();
+    let mut values = Values::new(alloc);
+    for number in 1..most + 1 {
+        let given = value_given(table, args, usize::from(number));
+        values.push(value_of(alloc, parameters, given, number)?)?;
+    }
+    Ok(values)
+}
+
+/// The values of numbered parameters. A table is made only for named arguments.
 fn bind_numbered(
     alloc: Global,
-    parameters: &[Parameter],
+    parameters: &Parameters,
     args: &[Value],
     named: &[NamedArg],
 ) -> Result<Values, BindFail>
-    requires { AreApart (views parameters.now) }
-    ensures { AnswersAs result (bound_values (views parameters.now) args.now named.now) }
+    ensures { AnswersAs result (bound_values parameters.now args.now named.now) }
 {
-    let most = greatest(parameters);
-    let mut table: [Option<&Value>; MOST] = [None; MOST];
-    if args.len() > usize::from(most) || !note_named(parameters, named, &mut table) {
+    if args.len() > usize::from(parameters.greatest()) {
         return Err(BindFail::Unexpected);
     }
-    let mut values = Values::new(alloc);
-    for number in 1..most + 1 {
-        let given = value_given(&table, args, usize::from(number));
-        let value = match value_of(alloc, parameters, given, number) {
-            Ok(value) => value,
-            Err(fail) => return Err(fail),
-        };
-        let Ok(()) = values.push(value) else {
-            return Err(BindFail::NoMemory);
-        };
+    if named.is_empty() {
+        return values_by(alloc, parameters, args, &[]);
     }
-    Ok(values)
+    let mut table: [Option<&Value>; PLACES] = [None; PLACES];
+    if !note_named(parameters, named, &mut table) {
+        return Err(BindFail::Unexpected);
+    }
+    values_by(alloc, parameters, args, &table)
 }
 
 /// The values of a text's parameters, one for each number up to the greatest. A parameter may have its value by its
@@ -183,10 +196,9 @@ pub fn bind(
     ensures exact { AnswersAs result (bound sql.now args.now named.now) }
     ensures count { IfOk result (λ values. length values ≡ greatest (parameters_of sql.now)) }
 {
-    match read_parameters(sql.as_bytes()) {
-        Ok(parameters) => bind_numbered(alloc, parameters.as_slice(), args, named),
-        Err(fail) => Err(fail),
-    }
+    let mut parameters = Parameters::new();
+    read_parameters(sql.as_bytes(), &mut parameters)?;
+    bind_numbered(alloc, &parameters, args, named)
 }
 
 /// Whether the arguments are the values of the text's parameters as they stand: all are positional, one for each number.
@@ -194,10 +206,12 @@ pub fn bind(
 pub fn are_bound(sql: &str, args: &[Value], named: &[NamedArg]) -> bool
     ensures { IsTrue result → bound sql.now args.now named.now ≡ Ok args.now }
 {
-    match read_parameters(sql.as_bytes()) {
-        Ok(parameters) => {
-            named.is_empty() && args.len() == usize::from(greatest(parameters.as_slice()))
-        }
+    if !named.is_empty() {
+        return false;
+    }
+    let mut parameters = Parameters::new();
+    match read_parameters(sql.as_bytes(), &mut parameters) {
+        Ok(()) => args.len() == usize::from(parameters.greatest()),
         Err(_) => false,
     }
 }

@@ -5,7 +5,7 @@ ghost use Rattle.sql_text.specs.Pieces.{pieces};
 ghost use Rattle.sql_text.specs.Words.{words, word_then, role_of};
 ghost use Rattle.sql_text.specs.declared.class.Keyword.{Keyword};
 
-use crate::pieces::{Kind, piece_at};
+use crate::pieces::{PieceKind, piece_at};
 
 /// How a transaction begins.
 #[derive(Clone, Copy, Debug, PartialEq, Eq)]
@@ -138,23 +138,23 @@ fn or_keyword(first: Keyword, other: Keyword) -> Keyword
     }
 }
 
-fn keyword_of(kind: Kind, bytes: &[u8]) -> Keyword
+fn keyword_of(kind: PieceKind, bytes: &[u8]) -> Keyword
     ensures { result ≡ keyword_of kind bytes.now }
 {
     match kind {
-        Kind::Word => or_keyword(transaction_keyword(bytes), statement_keyword(bytes)),
+        PieceKind::Word => or_keyword(transaction_keyword(bytes), statement_keyword(bytes)),
         _ => Keyword::Other,
     }
 }
 
-pub(crate) fn role_of(kind: Kind) -> Role
+pub(crate) fn role_of(kind: PieceKind) -> Role
     ensures { result ≡ role_of kind }
 {
     match kind {
-        Kind::Blank => Role::Skipped,
-        Kind::Comment => Role::Skipped,
-        Kind::Unclosed => Role::Skipped,
-        Kind::Sign(sign) => {
+        PieceKind::Blank => Role::Skipped,
+        PieceKind::Comment => Role::Skipped,
+        PieceKind::Unclosed => Role::Skipped,
+        PieceKind::Sign(sign) => {
             if sign == b';' {
                 Role::Cuts
             } else {

@@ -4,18 +4,18 @@
 
 mod binding;
 mod class;
+mod limits;
 mod parameters;
 mod pieces;
 mod spans;
 mod statements;
-#[cfg(test)]
-mod tests;
 
 pub use binding::{BindFail, are_bound, bind};
 pub use class::{Class, Mode, class_of};
-pub use parameters::{Parameter, Parameters, next_parameter};
+pub use limits::{MAX_PARAMETERS, limits_are};
+pub use parameters::{Parameters, next_parameter};
 pub use pieces::{
-    Kind, Piece, PlacedPiece, each_text_has_one_list_of_pieces, first_piece, piece_at,
+    Piece, PieceKind, PlacedPiece, each_text_has_one_list_of_pieces, first_piece, piece_at,
 };
 pub use spans::{Span, SplitFail, each_piece_is_its_slice, split};
 pub use statements::{

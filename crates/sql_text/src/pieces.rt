@@ -5,7 +5,7 @@ ghost use Rattle.std.specs.Str.{IsUtf8, IsCharBoundary};
 
 /// What a piece is. A sign carries its byte. An unclosed piece is a quote or a block comment with no end.
 #[derive(Clone, Copy, Debug, PartialEq, Eq)]
-pub enum Kind {
+pub enum PieceKind {
     Blank,
     Comment,
     Quoted,
@@ -19,14 +19,14 @@ pub enum Kind {
 /// A piece at the front of some bytes, and how many of them it takes.
 #[derive(Clone, Copy, Debug, PartialEq, Eq)]
 pub struct Piece {
-    pub kind: Kind,
+    pub kind: PieceKind,
     pub size: usize,
 }
 
 /// What a piece of a text is, and where it ends.
 #[derive(Clone, Copy, Debug, PartialEq, Eq)]
 pub struct PlacedPiece {
-    pub kind: Kind,
+    pub kind: PieceKind,
     pub end: usize,
 }
 
@@ -115,13 +115,13 @@ fn quote_end(quote: u8, bytes: &[u8], from: usize) -> Option<usize>
 }
 
 /// A piece that ends at a place, or isn't closed.
-fn ended(kind: Kind, end: Option<usize>, rest: &[u8]) -> Piece
+fn ended(kind: PieceKind, end: Option<usize>, rest: &[u8]) -> Piece
     ensures { result ≡ ended kind end rest.now }
 {
     match end {
         Some(end) => Piece { kind, size: end },
         None => Piece {
-            kind: Kind::Unclosed,
+            kind: PieceKind::Unclosed,
             size: rest.len(),
         },
     }
@@ -133,7 +133,7 @@ fn blank(rest: &[u8]) -> Option<Piece>
 {
     if is_blank(byte_at(rest, 0)) {
         Some(Piece {
-            kind: Kind::Blank,
+            kind: PieceKind::Blank,
             size: 1,
         })
     } else {
@@ -147,7 +147,7 @@ fn line_comment(rest: &[u8]) -> Option<Piece>
 {
     if byte_at(rest, 0) == b'-' && byte_at(rest, 1) == b'-' {
         Some(Piece {
-            kind: Kind::Comment,
+            kind: PieceKind::Comment,
             size: run_end(Run::Line, rest, 2),
         })
     } else {
@@ -160,7 +160,7 @@ fn block_comment(rest: &[u8]) -> Option<Piece>
     ensures { result ≡ block_comment rest.now }
 {
     if byte_at(rest, 0) == b'/' && byte_at(rest, 1) == b'*' {
-        Some(ended(Kind::Comment, comment_end(rest, 2), rest))
+        Some(ended(PieceKind::Comment, comment_end(rest, 2), rest))
     } else {
         None
     }
@@ -178,7 +178,7 @@ fn quoted(rest: &[u8]) -> Option<Piece>
 {
     let quote = byte_at(rest, 0);
     if is_quote(quote) {
-        Some(ended(Kind::Quoted, quote_end(quote, rest, 1), rest))
+        Some(ended(PieceKind::Quoted, quote_end(quote, rest, 1), rest))
     } else {
         None
     }
@@ -194,12 +194,12 @@ fn bracketed(rest: &[u8]) -> Option<Piece>
     let end = run_end(Run::Bracket, rest, 1);
     if end < rest.len() {
         Some(Piece {
-            kind: Kind::Quoted,
+            kind: PieceKind::Quoted,
             size: end + 1,
         })
     } else {
         Some(Piece {
-            kind: Kind::Unclosed,
+            kind: PieceKind::Unclosed,
             size: rest.len(),
         })
     }
@@ -211,7 +211,7 @@ fn numbered_parameter(rest: &[u8]) -> Option<Piece>
 {
     if byte_at(rest, 0) == b'?' {
         Some(Piece {
-            kind: Kind::Parameter,
+            kind: PieceKind::Parameter,
             size: run_end(Run::Digits, rest, 1),
         })
     } else {
@@ -235,7 +235,7 @@ fn named_parameter(rest: &[u8]) -> Option<Piece>
     let end = run_end(Run::Name, rest, 1);
     if end > 1 {
         Some(Piece {
-            kind: Kind::Parameter,
+            kind: PieceKind::Parameter,
             size: end,
         })
     } else {
@@ -249,7 +249,7 @@ fn word(rest: &[u8]) -> Option<Piece>
 {
     if is_letter(byte_at(rest, 0)) {
         Some(Piece {
-            kind: Kind::Word,
+            kind: PieceKind::Word,
             size: run_end(Run::Word, rest, 1),
         })
     } else {
@@ -263,7 +263,7 @@ fn number(rest: &[u8]) -> Option<Piece>
 {
     if byte_at(rest, 0).is_ascii_digit() {
         Some(Piece {
-            kind: Kind::Number,
+            kind: PieceKind::Number,
             size: run_end(Run::Digits, rest, 1),
         })
     } else {
@@ -319,7 +319,7 @@ pub fn first_piece(rest: &[u8]) -> Piece
         return piece;
     }
     Piece {
-        kind: Kind::Sign(rest[0]),
+        kind: PieceKind::Sign(rest[0]),
         size: 1,
     }
 }

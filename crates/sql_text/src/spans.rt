@@ -3,7 +3,7 @@ ghost use Rattle.std.specs.Prelude.{◌≡◌, ◌++◌, ℕ, None, Some, length
 ghost use Rattle.sql_text.specs.Spans.{spans_of, unclosed_at, AreInOrder, grown, closed_span, is_unclosed, EachPieceIsItsSlice, StandsBetween};
 
 use crate::class::{Role, role_of};
-use crate::pieces::{Kind, piece_at};
+use crate::pieces::{PieceKind, piece_at};
 use hrana_value::NoMemory;
 use std::alloc::Global;
 
@@ -22,13 +22,21 @@ pub enum SplitFail {
     NoMemory,
 }
 
-pub(crate) fn is_unclosed(kind: Kind) -> bool
+impl From<NoMemory> for SplitFail {
+    ghost use Rattle.std.specs.Prelude.{◌≡◌};
+    ghost use Rattle.sql_text.specs.declared.spans.SplitFail.TheVariants.{NoMemory as OutOfMemory};
+
+    ghost from_gives = { λ _ e. e ≡ OutOfMemory };
+
+    fn from(_: NoMemory) -> Self {
+        SplitFail::NoMemory
+    }
+}
+
+pub(crate) fn is_unclosed(kind: PieceKind) -> bool
     ensures { result ≡ is_unclosed kind }
 {
-    match kind {
-        Kind::Unclosed => true,
-        _ => false,
-    }
+    matches!(kind, PieceKind::Unclosed)
 }
 
 /// What stood open, made longer by a piece.
@@ -49,9 +57,7 @@ fn close(spans: &mut Vec<Span>, current: Option<Span>) -> Result<(), NoMemory>
     ensures ok { OnOk result (spans.new.items ≡ spans.old.items ++ closed_span current) }
 {
     if let Some(span) = current {
-        if spans.push(span).is_err() {
-            return Err(NoMemory);
-        }
+        spans.push(span)?;
     }
     Ok(())
 }
@@ -77,9 +83,7 @@ pub fn split(alloc: Global, sql: &str) -> Result<Vec<Span>, SplitFail>
         match role_of(piece.kind) {
             Role::Skipped => {}
             Role::Cuts => {
-                let Ok(()) = close(&mut spans, current) else {
-                    return Err(SplitFail::NoMemory);
-                };
+                close(&mut spans, current)?;
                 current = None;
             }
             Role::Stands => {
@@ -88,9 +92,7 @@ pub fn split(alloc: Global, sql: &str) -> Result<Vec<Span>, SplitFail>
         }
         at = piece.end;
     }
-    let Ok(()) = close(&mut spans, current) else {
-        return Err(SplitFail::NoMemory);
-    };
+    close(&mut spans, current)?;
     Ok(spans)
 }
 

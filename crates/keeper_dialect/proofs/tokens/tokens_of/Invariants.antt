@@ -2,15 +2,13 @@ use Rattle.std.proofs.Common.{◌≡◌, ◌≤◌, ◌-◌, ◌++◌, length, d
 use Rattle.std.specs.Prelude.{slice_range}
 use Rattle.std.specs.Str.{IsCharBoundary}
 use Rattle.sql_text.specs.Pieces.{pieces}
-use Rattle.sql_text.specs.Parameters.{AreApart, views as parameter_views}
 use Rattle.keeper_dialect.specs.Tokens.{tokens_from, tokens_of, views}
 use Rattle.keeper_dialect.proofs.tokens.tokens_of.Given as goal
 
 abbrev pub invariant-loop-at : goal.invariant-loop-at
 invariant-loop-at l = record {
-  read : views l.tokens.items ++ tokens_from (parameter_views l.seen.items) (slice_range l.sql l.from l.at) l.at (pieces (drop l.at l.sql)) ≡ tokens_of l.sql;
+  read : views l.tokens.items ++ tokens_from l.seen (slice_range l.sql l.from l.at) l.at (pieces (drop l.at l.sql)) ≡ tokens_of l.sql;
   same : l.text ≡ l.sql;
-  apart : AreApart (parameter_views l.seen.items);
   order : l.from ≤ l.at;
   within : l.at ≤ length l.sql;
   starts : IsCharBoundary l.sql l.from;

@@ -1,6 +1,5 @@
 use Rattle.std.proofs.Common.{◌≡◌, ◌-◌, length}
 use Rattle.sql_text.specs.Spans.{unclosed_at, first_unclosed}
-use Rattle.sql_text.specs.Parameters.{views, AreApart}
 use Rattle.sql_text.proofs.SpanLemmas.{from_place}
 use Rattle.sql_text.proofs.BindLemmas.{SoFar, texts_from}
 use Rattle.sql_text.proofs.binding.read_parameters.Given as goal
@@ -8,8 +7,7 @@ use Rattle.sql_text.proofs.binding.read_parameters.Given as goal
 abbrev pub invariant-loop-at : goal.invariant-loop-at
 invariant-loop-at l = record {
   unclosed : unclosed_at l.text ≡ first_unclosed (from_place l.text l.at);
-  apart : AreApart (views l.parameters.items);
-  so_far : SoFar l.fit (views l.parameters.items) l.text (texts_from l.text l.at);
+  so_far : SoFar l.fit l.parameters l.text (texts_from l.text l.at);
 }
 
 abbrev pub decreases-loop-at : goal.decreases-loop-at

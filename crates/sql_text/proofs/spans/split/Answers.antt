@@ -4,7 +4,7 @@ use Rattle.std.specs.Prelude.{All}
 use Rattle.sql_text.proofs.BoundarySpans.{spans_of-between}
 use Rattle.sql_text.proofs.SpanLemmas.{spans_of-start, unclosed_at-start, spans_of-in_order, spans-end, spans_from, from_place-end}
 use Rattle.sql_text.proofs.spans.split.Goals as goal
-use Rattle.sql_text.proofs.spans.split.Goals.{In-Ok-close}
+use Rattle.sql_text.proofs.spans.split.Goals.{In_ok-close}
 
 pub loop-at-init : goal.loop-at-init
 loop-at-init c = record {
@@ -17,10 +17,10 @@ returns-clause-closed c =
     let same = c.as_bytes-text.ensures.value in
     ap unclosed_at (sym same) ∙ c.loop-at.invariant.unclosed ∙ ap first_unclosed (from_place-end c.as_bytes-text.result.now c.loop-at.at c.loop-at-test.false)
 
-whole : (c : In-Ok-close) → c.close-2.new.spans.items ≡ spans_of c.args.sql.now
+whole : (c : In_ok-close) → c.close-2.new.spans.items ≡ spans_of c.args.sql.now
 whole c =
     let same = c.as_bytes-text.ensures.value in
-    c.in-Ok-close.ensures.ok ∙ sym (ap spans_of (sym same) ∙ c.loop-at.invariant.spans ∙ ap (λ spans. c.loop-at.spans.items ++ spans) (ap (spans_from c.loop-at.current) (from_place-end c.as_bytes-text.result.now c.loop-at.at c.loop-at-test.false) ∙ spans-end c.loop-at.current))
+    c.in_ok-close.ensures.ok ∙ sym (ap spans_of (sym same) ∙ c.loop-at.invariant.spans ∙ ap (λ spans. c.loop-at.spans.items ++ spans) (ap (spans_from c.loop-at.current) (from_place-end c.as_bytes-text.result.now c.loop-at.at c.loop-at-test.false) ∙ spans-end c.loop-at.current))
 
 pub returns-clause-spans : goal.returns-clause-spans
 returns-clause-spans c = whole c
