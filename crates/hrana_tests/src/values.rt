@@ -1,7 +1,7 @@
 // Values.
 use hrana_value::{
     Bytes, Decline, NoMemory, ReadFail, Txt, Value, Values, index_of, int32, int64_of_text,
-    list_of_json, option_of_json, optional_list_of_json, uint32, uint64, value_of_json,
+    option_of_json, optional_list_of_json, uint32, uint64, value_of_json,
     value_to_json, values_to_json,
 };
 use serde_json::Value as Json;
@@ -112,19 +112,13 @@ fn lists_are_read_to_their_end(rt: HostRuntime) {
 }
 
 #[test]
-fn optional_texts_and_lists_of_texts_are_read(rt: HostRuntime) {
+fn optional_texts_are_read(rt: HostRuntime) {
     let alloc = rt.alloc();
-    let json = json_of(alloc, r#"["a",null]"#).expect(&rt, "it is JSON");
-    let items = json.as_array().expect(&rt, "it is an array");
-    let first: Option<Txt> = option_of_json(alloc, &items[0]).expect(&rt, "it is a text");
-    let last: Option<Txt> = option_of_json(alloc, &items[1]).expect(&rt, "it is null");
-    assert_eq!(rt; first.expect(&rt, "it is there").as_str(), "a");
-    assert!(rt; last.is_none());
-    let texts: Result<hrana_value::List<Txt>, ReadFail> = list_of_json(alloc, &json);
-    match texts {
-        Ok(_) => assert!(rt; false),
-        Err(fail) => assert_eq!(rt; fail, ReadFail::Declined(Decline::Shape)),
-    }
+    let json = json_of(alloc, "\"a\"").expect(&rt, "it is JSON");
+    let text: Option<Txt> = option_of_json(alloc, &json).expect(&rt, "it is a text");
+    assert_eq!(rt; text.expect(&rt, "it is there").as_str(), "a");
+    let none: Option<Txt> = option_of_json(alloc, &Json::Null).expect(&rt, "it is null");
+    assert!(rt; none.is_none());
 }
 
 #[test]
