@@ -118,7 +118,10 @@ fn statements_are_answered(rt: HostRuntime) -> Result<(), Fail> {
             ("SELECT a FROM", "Refused(Syntax)"),
             ("INSERT INTO u VALUES (b)", "Refused(NoTable)"),
             ("DELETE FROM t WHERE a = 2", " 1"),
-            ("INSERT INTO t (b, a) VALUES (X'0aFF', ?)", "Refused(Constraint)"),
+            (
+                "INSERT INTO t (b, a) VALUES (X'0aFF', ?)",
+                "Refused(Constraint)",
+            ),
             ("INSERT INTO t (b, a) VALUES (X'0aFF', 3 - 1 - 1)", " 1 2"),
             (
                 "SELECT ?, 'it''s', NULL + 'x', a, b FROM t",
@@ -211,13 +214,26 @@ fn results_have_limits(rt: HostRuntime) -> Result<(), Fail> {
     let mut db = Database::new(alloc);
     run(alloc, &mut db, "CREATE TABLE t (a)", Values::new(alloc))?;
     for _ in 0..4096 {
-        run(alloc, &mut db, "INSERT INTO t VALUES (0)", Values::new(alloc))?;
+        run(
+            alloc,
+            &mut db,
+            "INSERT INTO t VALUES (0)",
+            Values::new(alloc),
+        )?;
     }
     let whole = run(alloc, &mut db, "SELECT * FROM t", Values::new(alloc))?;
     assert_eq!(rt; whole.rows.as_slice().len(), 4096);
-    run(alloc, &mut db, "INSERT INTO t VALUES (1)", Values::new(alloc))?;
+    run(
+        alloc,
+        &mut db,
+        "INSERT INTO t VALUES (1)",
+        Values::new(alloc),
+    )?;
     let refused = run(alloc, &mut db, "SELECT * FROM t", Values::new(alloc));
-    assert_eq!(rt; refused.err(), Some(EngineFail::Refused(Code::ResultTooLarge)));
+    assert_eq!(rt;
+        refused.err(),
+        Some(EngineFail::Refused(Code::ResultTooLarge))
+    );
     let refused = run(alloc, &mut db, "SELECT a + 'x' FROM t", Values::new(alloc));
     assert_eq!(rt; refused.err(), Some(EngineFail::Refused(Code::BadType)));
     Ok(())
@@ -235,7 +251,10 @@ fn results_have_bytes(rt: HostRuntime) -> Result<(), Fail> {
     let whole = run(alloc, &mut db, "SELECT a FROM t", Values::new(alloc))?;
     assert_eq!(rt; whole.rows.as_slice().len(), 1);
     let refused = run(alloc, &mut db, "SELECT a, 1 FROM t", Values::new(alloc));
-    assert_eq!(rt; refused.err(), Some(EngineFail::Refused(Code::ResultTooLarge)));
+    assert_eq!(rt;
+        refused.err(),
+        Some(EngineFail::Refused(Code::ResultTooLarge))
+    );
     Ok(())
 }
 
@@ -252,6 +271,17 @@ fn transactions_work_on_copies(rt: HostRuntime) -> Result<(), Fail> {
     assert_eq!(rt; keeper.run(7, &select)?.rows.as_slice().len(), 1);
     keeper.drop_txn(7);
     assert_eq!(rt; keeper.alone(&select)?.rows.as_slice().len(), 0);
+    Ok(())
+}
+
+#[test]
+fn commits_are_kept(rt: HostRuntime) -> Result<(), Fail> {
+    let alloc = rt.alloc();
+    let mut keeper = MemoryKeeper::new(alloc)?;
+    let create = statement(alloc, "CREATE TABLE t (a)", Values::new(alloc))?;
+    let insert = statement(alloc, "INSERT INTO t VALUES (1)", Values::new(alloc))?;
+    let select = statement(alloc, "SELECT a FROM t", Values::new(alloc))?;
+    keeper.alone(&create)?;
     keeper.begin(8, true)?;
     keeper.run(8, &insert)?;
     keeper.commit(8)?;

@@ -3,7 +3,7 @@ use Rattle.std.proofs.Common.{◌≡◌, ◌<◌, ℕ, Bool, true, false, List, 
 use Rattle.std.proofs.lemmas.List.{length-drop}
 use Rattle.keeper_dialect.specs.declared.query.DialectFail.{DialectFail}
 use Rattle.keeper_dialect.specs.Tokens.{Token}
-use Rattle.keeper_dialect.specs.Reading.{Reading, and_then, repeated, behind_comma, separated, separated_behind, symbol_at, is_sign, Shrinks, StopsAs}
+use Rattle.keeper_dialect.specs.Reading.{Reading, repeated, behind_comma, separated, separated_behind, symbol_at, is_sign, Shrinks, StopsAs}
 use Rattle.keeper_dialect.proofs.ReadingLemmas.{then_ok, then_err, stops_then, repeated-goes, repeated-stops, repeated-fails, comma_goes, comma_ends}
 use Rattle.keeper_dialect.proofs.Shorter.{commas_go_on}
 

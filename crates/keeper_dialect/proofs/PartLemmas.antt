@@ -1,14 +1,11 @@
 -- The parts of each list leave no more tokens than there were.
-use Rattle.std.proofs.Common.{ℕ, Bool, false, List, length, refl, arith}
+use Rattle.std.proofs.Common.{false, List, length, refl, arith}
 use Rattle.keeper_dialect.specs.declared.query.ColDef.{ColDef}
-use Rattle.keeper_dialect.specs.declared.query.ColExpr.{ColExpr}
 use Rattle.keeper_dialect.specs.declared.query.Expr.{Expr}
 use Rattle.keeper_dialect.specs.declared.query.Item.{Item}
-use Rattle.keeper_dialect.specs.Tokens.{Token}
-use Rattle.keeper_dialect.specs.Reading.{Reading, Shrinks}
+use Rattle.keeper_dialect.specs.Reading.{Shrinks}
 use Rattle.keeper_dialect.specs.Terms.{expr_at}
 use Rattle.keeper_dialect.specs.Lists.{is_among, is_set, new_name_at, tuple_at, set_at, item_at, col_def_at}
-use Rattle.keeper_dialect.proofs.ReadingLemmas.{Within}
 use Rattle.keeper_dialect.proofs.Shorter.{new_name_within, expr_within, tuple_within, set_within, item_within, col_def_within}
 
 pub names_shrink : Shrinks (λ done. new_name_at (is_among done)) is_among

@@ -5,7 +5,7 @@ use Rattle.std.proofs.lemmas.List.{length-drop}
 use Rattle.keeper_dialect.specs.declared.query.DialectFail.{DialectFail}
 use Rattle.keeper_dialect.specs.declared.query.DialectFail.TheVariants as fail
 use Rattle.keeper_dialect.specs.Tokens.{Token}
-use Rattle.keeper_dialect.specs.Reading.{Reading, and_then, continued, repeated, behind_comma, separated, symbol_at, is_sign, StopsAs}
+use Rattle.keeper_dialect.specs.Reading.{Reading, and_then, continued, repeated, behind_comma, symbol_at, is_sign, StopsAs}
 
 -- what is read leaves at most so many tokens
 pub record Within {A : Type 0} (n : ℕ) (reading : Reading A) : Type 0 where

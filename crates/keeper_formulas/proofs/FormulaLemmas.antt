@@ -1,5 +1,5 @@
 -- Lemmas on the values of expressions.
-use Rattle.std.proofs.Common.{◌≡◌, ℕ, ◌<◌, ◌≤◌, Bool, true, false, ◌&&◌, true≢false, List, [], ◌∷◌, length, get_or, drop, Some, Result, Ok, Err, refl, sym, ap, ◌∙◌, arith}
+use Rattle.std.proofs.Common.{◌≡◌, ◌<◌, ◌≤◌, Bool, true, false, ◌&&◌, true≢false, List, [], ◌∷◌, length, get_or, drop, Result, Ok, Err, refl, sym, ap, ◌∙◌, arith}
 use Rattle.std.proofs.lemmas.List.{drop_more}
 use Rattle.keeper_formulas.specs.declared.fail.Refusal.{Refusal}
 use Rattle.hrana_value.specs.declared.value.Value.{Value}
@@ -8,10 +8,9 @@ use Rattle.keeper_formulas.specs.declared.formulas.Addend.{Addend}
 use Rattle.std.specs.List.{list_all}
 use Rattle.keeper_formulas.specs.declared.formulas.Operand.TheVariants.{Constant, Column}
 use Rattle.keeper_formulas.specs.declared.formulas.Formula.{Formula}
-use Rattle.keeper_formulas.specs.declared.formulas.Equation.{Equation}
 use Rattle.keeper_formulas.specs.Each.{and_then, map_ok}
 use Rattle.keeper_formulas.specs.Formulas.{is_constant, names_no_column, operand_value, sums, formula_value}
-use Rattle.keeper_formulas.specs.Values.{value_at, sum_of, is_equal}
+use Rattle.keeper_formulas.specs.Values.{sum_of}
 
 -- an expression of one operand
 pub first_only : (g : Value → Bool) (row : List Value) (first : Operand) (rest : List Addend) (b : Bool) → length rest < 1 → b ≡ g (operand_value row first) → ◌≡◌ {A = Result Bool Refusal} (Ok b) (map_ok g (sums row (operand_value row first) rest))

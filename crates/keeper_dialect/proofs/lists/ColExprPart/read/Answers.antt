@@ -1,9 +1,8 @@
 use Rattle.std.proofs.Common.{ℕ, Bool, List, subst}
-use Rattle.keeper_dialect.specs.declared.query.DialectFail.{DialectFail}
 use Rattle.keeper_dialect.specs.Tokens.{Token}
 use Rattle.keeper_dialect.specs.Reading.{StopsAs, sign_at}
 use Rattle.keeper_dialect.specs.Terms.{expr_at}
-use Rattle.keeper_dialect.specs.Lists.{is_set, new_name_at, setting_at, set_at}
+use Rattle.keeper_dialect.specs.Lists.{new_name_at, setting_at, set_at}
 use Rattle.keeper_dialect.specs.Taken.{is_taken}
 use Rattle.keeper_dialect.proofs.ReadingLemmas.{handed_on, stops_then, stops_behind}
 use Rattle.keeper_dialect.proofs.lists.ColExprPart.read.Goals as goal
