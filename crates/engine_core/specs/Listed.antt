@@ -1,8 +1,21 @@
 -- The calls of an object in memory that fail: their numbers are listed, counted from 1 over all calls of the object.
-use Rattle.std.specs.Prelude.{◌≡◌, ◌↔◌, ℕ, ◌+◌, ◌-◌, ◌^◌, min, List, Contains, Bool, IsTrue, Result, OnOk, OnErr}
+use Rattle.std.specs.Prelude.{◌≡◌, ◌↔◌, ℕ, ◌+◌, ◌-◌, ◌^◌, min, drop, List, Contains, Bool, IsTrue, Result, OnOk, OnErr}
 use Rattle.engine_core.specs.declared.byte_source.ByteSource.{ByteSource}
 use Rattle.engine_core.specs.declared.byte_sink.ByteSink.{ByteSink}
 use Rattle.engine_core.specs.declared.failing.Failing.{Failing}
+
+-- the bytes that a source in memory has left, those that a sink in memory was given, and the faults of both
+abbrev pub source_left : ByteSource → List ℕ
+source_left s = drop s.at s.bytes.items
+
+abbrev pub source_faults : ByteSource → ℕ
+source_faults s = s.faults
+
+abbrev pub sink_bytes : ByteSink → List ℕ
+sink_bytes s = s.bytes.items
+
+abbrev pub sink_faults : ByteSink → ℕ
+sink_faults s = s.faults
 
 -- the listed numbers, and how many calls there were
 pub record Listed : Type 0 where

@@ -41,19 +41,19 @@ impl Sink for ByteSink {
     ghost use Rattle.std.specs.Io.KnownBytes.{WriteAppends};
     ghost use Rattle.std.specs.Prelude.{◌<◌, length};
     ghost use Rattle.engine_core.specs.Causes.{HasCause};
-    ghost use Rattle.engine_core.specs.Listed.{sink_calls, CountsCall};
+    ghost use Rattle.engine_core.specs.Listed.{sink_calls, sink_bytes, sink_faults, CountsCall};
 
-    ghost written = { λ s. Some s.bytes.items };
+    ghost written = { λ s. Some (sink_bytes s) };
 
-    ghost faults = { λ s. s.faults };
+    ghost faults = { sink_faults };
 
     /// Fails at the listed calls, and at others only for want of memory.
     fn write(&mut self, bytes: &[u8]) -> Result<usize, Failed>
         ensures bound { WritesAtMost result bytes.now }
         ensures some { 0 < length bytes.now → IfOk result (λ n. 0 < n) }
-        ensures bytes { WriteAppends (Some self.old.bytes.items) (Some self.new.bytes.items) result bytes.now }
-        ensures cause { HasCause self.old.faults self.new.faults result }
-        ensures listed { CountsCall (sink_calls self.old) (sink_calls self.new) self.old.faults self.new.faults result }
+        ensures bytes { WriteAppends (Some (sink_bytes self.old)) (Some (sink_bytes self.new)) result bytes.now }
+        ensures cause { HasCause (sink_faults self.old) (sink_faults self.new) result }
+        ensures listed { CountsCall (sink_calls self.old) (sink_calls self.new) (sink_faults self.old) (sink_faults self.new) result }
     {
         self.calls = self.calls.saturating_add(1);
         if self.fail_at.contains(&self.calls) || self.bytes.extend_from_slice(bytes).is_err() {

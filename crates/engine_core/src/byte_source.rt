@@ -1,5 +1,5 @@
 // A source in memory.
-ghost use Rattle.std.specs.Prelude.{◌≡◌, ◌≤◌, Some, IfOk, drop, vec_len};
+ghost use Rattle.std.specs.Prelude.{◌≡◌, ◌≤◌, Some, IfOk, vec_len};
 
 use crate::{Failed, NoMemory, Source};
 use std::alloc::Global;
@@ -37,18 +37,18 @@ impl Source for ByteSource {
     ghost use Rattle.std.specs.Io.KnownBytes.{ReadConsumes};
     ghost use Rattle.std.specs.Prelude.{OnErr};
     ghost use Rattle.engine_core.specs.Causes.{HasCause};
-    ghost use Rattle.engine_core.specs.Listed.{source_calls, CountsCall, FailsNext};
+    ghost use Rattle.engine_core.specs.Listed.{source_calls, source_left, source_faults, CountsCall, FailsNext};
 
-    ghost left = { λ s. Some (drop s.at s.bytes.items) };
+    ghost left = { λ s. Some (source_left s) };
 
-    ghost faults = { λ s. s.faults };
+    ghost faults = { source_faults };
 
     /// Fails exactly at the listed calls.
     fn read(&mut self, buf: &mut [u8]) -> Result<usize, Failed>
         ensures bound { ReadsAtMost result buf.new }
-        ensures bytes { ReadConsumes (Some (drop self.old.at self.old.bytes.items)) (Some (drop self.new.at self.new.bytes.items)) result buf.new }
-        ensures cause { HasCause self.old.faults self.new.faults result }
-        ensures listed { CountsCall (source_calls self.old) (source_calls self.new) self.old.faults self.new.faults result }
+        ensures bytes { ReadConsumes (Some (source_left self.old)) (Some (source_left self.new)) result buf.new }
+        ensures cause { HasCause (source_faults self.old) (source_faults self.new) result }
+        ensures listed { CountsCall (source_calls self.old) (source_calls self.new) (source_faults self.old) (source_faults self.new) result }
         ensures no_other { OnErr result (FailsNext (source_calls self.old)) }
     {
         self.calls = self.calls.saturating_add(1);
