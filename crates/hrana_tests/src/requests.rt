@@ -1,8 +1,24 @@
-// The members of asks and replies, and cursor entries, by their tables. `messages` has a text of each kind.
+// The members of asks, and cursor entries, by their tables. `messages` has the replies.
 use hrana_value::{Decline, ReadFail};
-use serde_json::Value as Json;
+use serde_json::{Map, Value as Json};
 use std::alloc::Global;
-use stream_requests::{entries_of_json, entries_to_json};
+use stream_requests::{AskKind, ask_of_json, entries_of_json, entries_to_json, put_ask};
+
+// The members of an ask of this kind, written again.
+fn ask(alloc: Global, kind: AskKind, text: &str) -> Result<String, ReadFail> {
+    let Ok(json) = Json::from_str(alloc, text) else {
+        return Err(ReadFail::NoMemory);
+    };
+    let read = ask_of_json(alloc, kind, &json)?;
+    let mut members = Map::new(alloc);
+    if put_ask(&mut members, alloc, &read).is_err() {
+        return Err(ReadFail::NoMemory);
+    }
+    match Json::Object(members).to_string(alloc) {
+        Ok(text) => Ok(text),
+        Err(_) => Err(ReadFail::NoMemory),
+    }
+}
 
 // The entries of a text, written again.
 fn entries(alloc: Global, text: &str) -> Result<String, ReadFail> {
@@ -17,6 +33,32 @@ fn entries(alloc: Global, text: &str) -> Result<String, ReadFail> {
     match written {
         Ok(text) => Ok(text),
         Err(_) => Err(ReadFail::NoMemory),
+    }
+}
+
+#[test]
+fn asks_come_back(rt: HostRuntime) {
+    let cases = [
+        (AskKind::Execute, r#"{"stmt":{"sql":"a"}}"#),
+        (AskKind::Batch, r#"{"batch":{"steps":[]}}"#),
+        (AskKind::Sequence, r#"{"sql":"a;b"}"#),
+        (AskKind::Sequence, r#"{"sql_id":-1}"#),
+        (
+            AskKind::Cursor,
+            r#"{"batch":{"steps":[{"stmt":{"sql":"a"}}]}}"#,
+        ),
+        (AskKind::Fetch, r#"{"max_count":4294967295}"#),
+        (AskKind::CloseCursor, "{}"),
+        (AskKind::GetAutocommit, "{}"),
+        (AskKind::StoreSql, r#"{"sql":"","sql_id":8}"#),
+        (AskKind::CloseSql, r#"{"sql_id":7}"#),
+        (AskKind::Close, "{}"),
+    ];
+    for (kind, text) in cases {
+        match ask(rt.alloc(), kind, text) {
+            Ok(told) => assert_eq!(rt; told.as_str(), text),
+            Err(_) => assert!(rt; false, "at {text}"),
+        }
     }
 }
 
