@@ -1,5 +1,5 @@
 -- Lemmas on what writes do to a sink's bytes.
-use Rattle.std.proofs.Common.{ℕ, ◌+◌, List, [], ◌++◌, Option, subst, sym, take, drop, take-append-drop, length, length-drop, arith, ◌-◌, ◌≤◌, append_assoc, append-nil, ◌∙◌, ap}
+use Rattle.std.proofs.Common.{ℕ, ◌+◌, List, Option, subst, sym, take, drop, take-append-drop, length, length-drop, arith, ◌-◌, ◌≤◌}
 use Rattle.std.proofs.Math.Seq.{take-add}
 use Rattle.std.proofs.lemmas.List.{take_rest}
 use Rattle.std.proofs.KnownBytes.{Appends-trans, Appends-kept}

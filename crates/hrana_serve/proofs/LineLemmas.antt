@@ -1,12 +1,12 @@
 -- The lines by their number, and the first of those that are left.
-use Rattle.std.proofs.Common.{◌≡◌, ℕ, ◌+◌, ◌-◌, ◌<◌, ◌≤◌, Bool, true, false, List, [], ◌∷◌, ◌++◌, Bor, Option, None, Some, subst, sym, ap, ◌∙◌, refl, arith, add-one, length, length-drop, take, drop, drop-cons, get_or, take-append-drop, append_assoc, append-nil, ◌==◌, All, slice_index}
+use Rattle.std.proofs.Common.{◌≡◌, ℕ, ◌+◌, ◌<◌, ◌≤◌, Bool, true, false, List, [], ◌∷◌, ◌++◌, Bor, Option, None, Some, subst, sym, ap, ◌∙◌, refl, arith, add-one, length, length-drop, take, drop, drop-cons, get_or, take-append-drop, append-nil, ◌==◌, slice_index}
 use Rattle.std.proofs.lemmas.Grind.{get_or_default_zero}
 use Rattle.std.proofs.lemmas.List.{take_more, length-take-le}
 use Rattle.std.proofs.lemmas.Bool.Decides.{Decides-eqb}
 use Rattle.std.specs.Prelude.{IfSome}
 use Rattle.std.proofs.lemmas.List.Splits.{slice_split_first, slice_split_none}
 use Rattle.std.proofs.lemmas.List.Sums.{position_or_len_is}
-use Rattle.std.specs.List.{position_or_len, slice_split}
+use Rattle.std.specs.List.{position_or_len}
 use Rattle.memchr.specs.Find.{IsFirstByte, is_byte}
 use Rattle.engine_core.specs.Bytes.{IsPrefix, lines_of}
 use Rattle.hrana_serve.specs.Lines.{lines_left, left_measure}

@@ -1,5 +1,5 @@
 -- Replies stand in the order of their requests.
-use Rattle.std.specs.Prelude.{◌≡◌, ℕ, ℤ, List, [], ◌∷◌, ◌++◌, Option, None, Some, Ok, Err}
+use Rattle.std.specs.Prelude.{◌≡◌, ℕ, ℤ, List, [], ◌∷◌, ◌++◌, Option, Some, Ok, Err}
 use Rattle.hrana_stmt.specs.declared.statements.Stmt.{Stmt}
 use Rattle.engine_core.specs.declared.entries.Entry.{Entry}
 use Rattle.hrana_serve.specs.Messages.{IsMessage}
