@@ -158,7 +158,10 @@ fn limits_are_those_of_the_protocol(rt: HostRuntime) {
         match stmt_of_json(alloc, &json) {
             Ok(_) => assert!(rt; fits, "at {bytes}, {count}"),
             Err(fail) => {
-                assert!(rt; !fits && fail == ReadFail::Declined(Decline::Range), "at {bytes}, {count}")
+                assert!(rt;
+                    !fits && fail == ReadFail::Declined(Decline::Range),
+                    "at {bytes}, {count}"
+                )
             }
         }
     }

@@ -1,8 +1,8 @@
 // Values.
 use hrana_value::{
     Bytes, Decline, NoMemory, ReadFail, Txt, Value, Values, index_of, int32, int64_of_text,
-    option_of_json, optional_list_of_json, uint32, uint64, value_of_json,
-    value_to_json, values_to_json,
+    option_of_json, optional_list_of_json, uint32, uint64, value_of_json, value_to_json,
+    values_to_json,
 };
 use serde_json::Value as Json;
 use std::alloc::Global;
