@@ -6,6 +6,8 @@
 #[cfg(test)]
 mod batches;
 #[cfg(test)]
+mod batons;
+#[cfg(test)]
 mod dialect;
 #[cfg(test)]
 mod keeper;

@@ -1,0 +1,66 @@
+// Batons of streams.
+use baton_store::{BatonStore, Redeem, limits_are};
+use hrana_value::StreamNo;
+use std::test::Fail;
+
+// The URL-safe base64 of the bytes 00 00 00 00 00 00 00 01, 01 to 08, and FF down to F8.
+const FIRST: &str = "AAAAAAAAAAEBAgMEBQYHCP_-_fz7-vn4";
+
+// That of 00 00 00 00 00 00 00 02 and sixteen zeros.
+const SECOND: &str = "AAAAAAAAAAIAAAAAAAAAAAAAAAAAAAAA";
+
+#[test]
+fn a_baton_is_accepted_once_and_within_its_life(rt: HostRuntime) -> Result<(), Fail> {
+    limits_are();
+    let mut store = BatonStore::new(rt.alloc())?;
+    store.reserve_stream(StreamNo(7))?;
+    let words = [0x0102_0304_0506_0708, 0xFFFE_FDFC_FBFA_F9F8];
+    let first = store.issue(StreamNo(7), words, 0);
+    assert_eq!(rt; first.text.as_slice(), FIRST.as_bytes());
+    let Redeem::Live(stream) = store.redeem(FIRST, 0) else {
+        return Err(Fail::new("the first baton is dead"));
+    };
+    let second = store.issue(stream, [0, 0], 1000);
+    assert_eq!(rt; second.text.as_slice(), SECOND.as_bytes());
+    for (text, now, answer) in [
+        (FIRST, 1000, Redeem::Dead),
+        ("", 1000, Redeem::Dead),
+        ("AAAAAAAAAAIAAAAAAAAAAAAAAAAAAAAB", 1000, Redeem::Dead),
+        ("AAAAAAAAAAIAAAAAAAAAAAAAAAAAAAAA=", 1000, Redeem::Dead),
+        ("AAAAAAAAAAI=AAAAAAAAAAAAAAAAAAAA", 1000, Redeem::Dead),
+        (SECOND, 11_000, Redeem::Dead),
+        (SECOND, 10_999, Redeem::Live(StreamNo(7))),
+        (SECOND, 10_999, Redeem::Dead),
+    ] {
+        assert_eq!(rt; store.redeem(text, now), answer, "{text} at {now}");
+    }
+    Ok(())
+}
+
+#[test]
+fn the_lowest_stream_is_due_first(rt: HostRuntime) -> Result<(), Fail> {
+    let mut store = BatonStore::new(rt.alloc())?;
+    store.reserve_stream(StreamNo(5))?;
+    store.reserve_stream(StreamNo(3))?;
+    store.reserve_stream(StreamNo(2))?;
+    let _five = store.issue(StreamNo(5), [0, 0], 0);
+    let _three = store.issue(StreamNo(3), [0, 0], 1);
+    for (now, due) in [
+        (9_999, None),
+        (10_000, Some(StreamNo(5))),
+        (10_001, Some(StreamNo(3))),
+        (u64::MAX, Some(StreamNo(3))),
+    ] {
+        assert_eq!(rt; store.due(now), due, "at {now}");
+    }
+    // Its moment is below that of the baton before.
+    let _two = store.issue(StreamNo(2), [0, 0], 0);
+    assert_eq!(rt; store.due(10_000), Some(StreamNo(2)));
+    store.forget(StreamNo(2));
+    assert_eq!(rt; store.due(10_000), Some(StreamNo(5)));
+    assert_eq!(rt;
+        store.redeem("AAAAAAAAAAMAAAAAAAAAAAAAAAAAAAAA", 0),
+        Redeem::Dead
+    );
+    Ok(())
+}
