@@ -1,17 +1,17 @@
 -- On stores.
-use Rattle.std.proofs.Common.{◌≡◌, ◌≢◌, ℕ, ◌+◌, ◌-◌, ◌^◌, ◌<◌, ◌≤◌, Bool, true, false, not, List, [], ◌∷◌, ◌++◌, length, get_or, take, map, Option, Some, None, slice_get, refl, sym, ap, subst, ◌∙◌, arith, inl, inr, nat_lt, lit<}
+use Rattle.std.proofs.Common.{◌≡◌, ◌≢◌, ℕ, ◌+◌, ◌-◌, ◌^◌, ◌<◌, ◌≤◌, Bool, true, false, not, List, [], ◌∷◌, ◌++◌, length, get_or, take, drop, map, Option, Some, None, slice_get, refl, sym, ap, subst, ◌∙◌, arith, inl, inr, nat_lt, lit<}
 use Rattle.std.specs.Option.{IsSomeAnd}
 use Rattle.std.specs.List.{All, AllPairs, Any, Contains, filter, remove}
 use Rattle.std.specs.List.Sorted.{IsPartitionedBy, IsPartitionPoint}
 use Rattle.std.proofs.lemmas.Bool.{cases_order, cases_lt, ltb-true, lt-ltb}
-use Rattle.std.proofs.lemmas.List.{get_or_default, get_or_append_left, take_more, length-append, length-map, get_or-map}
-use Rattle.std.proofs.lemmas.Option.{slice_get_read}
-use Rattle.std.proofs.lemmas.List.Elements.{All-push, All-map, All-filter, filter_passes, Contains-append_left}
+use Rattle.std.proofs.lemmas.List.{get_or_default, get_or-drop, length-drop, take-append-drop, get_or_append_left, take_more, length-append, length-map, get_or-map}
+use Rattle.std.proofs.lemmas.Option.{slice_get_read, get_or_from_slice_get}
+use Rattle.std.proofs.lemmas.List.Elements.{All-push, All-append, All-map, All-filter, filter_passes, Contains-append_left}
 use Rattle.std.proofs.lemmas.List.Quantifiers.{all_pairs_push, all_pairs_remove, Any-push}
 use Rattle.std.proofs.lemmas.List.Kept.{AllPairs-filter}
 use Rattle.hrana_value.specs.declared.StreamNo.{StreamNo}
 use Rattle.baton_store.specs.Text.{text_of}
-use Rattle.baton_store.specs.Batons.{Batons, no_batons, same_stream, with_place, HasNone, with_baton, next_baton, without, Lives, Accepts, IsDue, IsLowestDue, IsDueAmong, IsNamed, IsSound}
+use Rattle.baton_store.specs.Batons.{Batons, no_batons, same_stream, with_place, HasNone, with_baton, next_baton, without, Lives, Accepts, IsDue, IsLowestDue, IsDueAmong, IsNamed, IsSound, MomentsRise}
 use Rattle.baton_store.specs.declared.limits.TheConstants.{BATON_LIFE_MS}
 use Rattle.baton_store.specs.declared.store.Unused.{Unused}
 use Rattle.baton_store.proofs.ListLemmas.{All-remove, All-removed, Contains-filter, length-contained, within, holds_at}
@@ -208,3 +208,44 @@ due_lower seen u now s is lower = record {
 -- one step of a walk over the batons
 pub due_step : (us : List Unused) (i : ℕ) (d : Unused) (now : ℕ) (answer : Option StreamNo) → i < length us → IsDueAmong (take i us ++ get_or us i d ∷ []) now answer → IsDueAmong (take (i + 1) us) now answer
 due_step us i d now answer lt is = rw (take_more us i d lt) is
+
+-- ---- moments that rise
+
+pub rising_to : (us : List Unused) (last : Unused) (now : ℕ) → MomentsRise us → slice_get us (length us - 1) ≡ Some last → last.at ≤ now → All (λ u. u.at ≤ now) us
+rising_to us last now rise e le k d lt =
+    let at : get_or us (length us - 1) d ≡ last = get_or_from_slice_get us (length us - 1) last d e in
+    let g : (get_or us (length us - 1) d).at ≤ now = subst (λ (v : Unused). v.at ≤ now) (sym at) le in
+    elim (cases_order k (length us - 1)) [
+      | inl same ↦ subst (λ (m : ℕ). (get_or us m d).at ≤ now) (sym same) g
+      | inr order ↦ elim order [
+        | inl below ↦ let h : (get_or us k d).at ≤ (get_or us (length us - 1) d).at = rise k (length us - 1) d below (omega arith) in omega arith
+        | inr above ↦ absurd (omega arith)
+      ]
+    ]
+
+pub rising_push : (us : List Unused) (u : Unused) → MomentsRise us × All (λ v. v.at ≤ u.at) us → MomentsRise (us ++ u ∷ [])
+rising_push us u rise = all_pairs_push (λ v w. v.at ≤ w.at) us u rise.0 rise.1
+
+-- more that aren't due
+due_with : (seen more : List Unused) (now : ℕ) (answer : Option StreamNo) → All (λ v. Lives v now) more → IsDueAmong seen now answer → IsDueAmong (seen ++ more) now answer
+due_with seen more now None lives is = All-append (λ v. now < v.at + BATON_LIFE_MS) seen more is lives
+due_with seen more now (Some s) lives is = record {
+  is_due = Any-append_left (λ v. (v.stream ≡ s) × IsDue v now) seen more is.is_due;
+  lowest = All-append (λ v. IsDue v now → s.0 ≤ v.stream.0) seen more is.lowest (λ k d lt due. let h : now < (get_or more k d).at + BATON_LIFE_MS = lives k d lt in absurd (omega arith));
+}
+
+-- where the moments rise, none is due from one on that lives
+pub due_rest : (us : List Unused) (i : ℕ) (d : Unused) (now : ℕ) (answer : Option StreamNo) → MomentsRise us → i < length us → Lives (get_or us i d) now → IsDueAmong (take i us) now answer → IsDueAmong us now answer
+due_rest us i d now answer rise inside young is =
+    let lives : All (λ v. Lives v now) (drop i us) = λ k e lt.
+    let at : get_or us i e ≡ get_or us i d = get_or_default us i e d inside in
+    let here : now < (get_or us i e).at + BATON_LIFE_MS = subst (λ (v : Unused). now < v.at + BATON_LIFE_MS) (sym at) young in
+    let there : now < (get_or us (i + k) e).at + BATON_LIFE_MS = elim (cases_order i (i + k)) [
+      | inl same ↦ subst (λ (m : ℕ). now < (get_or us m e).at + BATON_LIFE_MS) same here
+      | inr order ↦ elim order [
+        | inl below ↦ let h : (get_or us i e).at ≤ (get_or us (i + k) e).at = rise i (i + k) e below (omega (arith, lt, length-drop i us)) in omega arith
+        | inr above ↦ absurd (omega arith)
+      ]
+    ] in
+    subst (λ (v : Unused). now < v.at + BATON_LIFE_MS) (sym (get_or-drop i us k e)) there in
+    subst (λ (vs : List Unused). IsDueAmong vs now answer) (take-append-drop i us) (due_with (take i us) (drop i us) now answer lives is)

@@ -117,3 +117,7 @@ pub record IsSound (store : Batons) : Type 0 where
   pub named : All IsNamed store.unused
   pub apart : AllPairs (λ u v. u.stream ≢ v.stream) store.unused
   pub placed : All (λ u. Contains store.reserved u.stream) store.unused
+
+-- each was issued no earlier than those before
+abbrev pub MomentsRise : List Unused → Type 0
+MomentsRise unused = AllPairs (λ u v. u.at ≤ v.at) unused

@@ -1,9 +1,9 @@
 // The store: which batons were issued and not used.
-ghost use Rattle.std.specs.Prelude.{◌≡◌, ◌+◌, ◌-◌, ◌^◌, ◌<◌, ◌∷◌, ◌++◌, ◌↔◌, [], List, IsTrue, All, AllPairs, IfOk, OnOk, OnErr, Contains};
+ghost use Rattle.std.specs.Prelude.{◌≡◌, ◌+◌, ◌-◌, ◌^◌, ◌<◌, ◌≤◌, ◌∷◌, ◌++◌, ◌↔◌, [], List, IsTrue, All, AllPairs, IfOk, OnOk, OnErr, Contains};
 ghost use Rattle.std.specs.Str.{IsAscii};
 ghost use Rattle.baton_store.specs.Text.{text_of};
 ghost use Rattle.baton_store.specs.declared.store.Unused.{Unused};
-ghost use Rattle.baton_store.specs.Batons.{no_batons, with_place, with_baton, without, HasNone, Redeems, Frees, Lives, IsNamed, IsDueAmong, IsPlaceOf, IsLivePlace};
+ghost use Rattle.baton_store.specs.Batons.{no_batons, with_place, with_baton, without, HasNone, Redeems, Frees, Lives, IsNamed, IsDueAmong, IsPlaceOf, IsLivePlace, MomentsRise};
 
 use crate::limits::BATON_LIFE_MS;
 use crate::text::{Baton, baton_of, number_of};
@@ -97,20 +97,49 @@ fn lower_due(lowest: Option<StreamNo>, unused: &Unused, now: u64) -> Option<Stre
     }
 }
 
+/// The lowest stream that is due. Where the moments rise, none is due from the first baton on that lives.
+fn lowest_due(unused: &[Unused], moments_rise: bool, now: u64) -> Option<StreamNo>
+    requires { IsTrue moments_rise → MomentsRise unused.now }
+    ensures { IsDueAmong unused.now now result }
+{
+    let mut lowest: Option<StreamNo> = None;
+    for baton in unused {
+        if moments_rise && baton.lives(now) {
+            break;
+        }
+        lowest = lower_due(lowest, baton, now);
+    }
+    lowest
+}
+
+/// Whether the moments rise with one more at the end, which is this.
+fn still_rise(unused: &[Unused], moments_rise: bool, now: u64) -> bool
+    requires { IsTrue moments_rise → MomentsRise unused.now }
+    ensures { IsTrue result → MomentsRise unused.now × All (λ u. u.at ≤ now) unused.now }
+{
+    match unused.last() {
+        Some(last) => moments_rise && last.at <= now,
+        None => true,
+    }
+}
+
 /// The batons of a server's streams. A stream has a place from `reserve_stream` on, and at most one unused baton.
 ///
 /// The unused batons stand in the order of their issues. A baton's text names its issue, by which its place is searched in
-/// halves. `due` goes over all of them, so over no more than there are streams.
+/// halves. While each issue is no earlier than the one before, `due` goes over the batons that are due and one more, else
+/// over all of them, so over no more than there are streams.
 #[derive(Drop)]
 pub struct BatonStore {
     issued: u64,
     reserved: Vec<StreamNo>,
     unused: Vec<Unused>,
+    /// If true, the moments of the unused batons rise.
+    moments_rise: bool,
 }
 
 impl Model for BatonStore {
-    ghost use Rattle.std.specs.Prelude.{vec_len, vec_capacity, ◌≤◌};
-    ghost use Rattle.baton_store.specs.Batons.{Batons, IsSound};
+    ghost use Rattle.std.specs.Prelude.{vec_len, vec_capacity, IsTrue, ◌≤◌};
+    ghost use Rattle.baton_store.specs.Batons.{Batons, IsSound, MomentsRise};
 
     ghost Value = { Batons };
 
@@ -119,6 +148,7 @@ impl Model for BatonStore {
     ghost invariant = { λ s. record {
       sound : IsSound (record { issued = s.issued; reserved = s.reserved.items; unused = s.unused.items });
       room : vec_len s.reserved ≤ vec_capacity s.unused;
+      rise : IsTrue s.moments_rise → MomentsRise s.unused.items;
     } };
 }
 
@@ -130,6 +160,7 @@ impl BatonStore {
             issued: 0,
             reserved: Vec::new(alloc),
             unused: Vec::new(alloc),
+            moments_rise: true,
         })
     }
 
@@ -155,6 +186,7 @@ impl BatonStore {
         ensures store { self.new ≡ with_baton self.old stream words now }
     {
         self.issued += 1;
+        self.moments_rise = still_rise(&self.unused, self.moments_rise, now);
         let baton = baton_of(self.issued, words);
         self.unused.push_reserved(Unused {
             number: self.issued,
@@ -180,11 +212,7 @@ impl BatonStore {
     pub fn due(&self, now: u64) -> Option<StreamNo>
         ensures { IsDueAmong self.now.unused now result }
     {
-        let mut lowest: Option<StreamNo> = None;
-        for baton in &self.unused {
-            lowest = lower_due(lowest, baton, now);
-        }
-        lowest
+        lowest_due(&self.unused, self.moments_rise, now)
     }
 
     /// Takes the stream's baton and its place away.

@@ -1,6 +1,0 @@
-use Rattle.std.proofs.Common.{take}
-use Rattle.baton_store.specs.Batons.{IsDueAmong}
-use Rattle.baton_store.proofs.store.BatonStore.due.Given as goal
-
-abbrev pub invariant-loop-baton : goal.invariant-loop-baton
-invariant-loop-baton l = IsDueAmong (take l.baton-index l.baton-items) l.now l.lowest
