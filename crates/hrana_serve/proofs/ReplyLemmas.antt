@@ -11,7 +11,7 @@ use Rattle.engine_core.specs.declared.entries.Entry.{Entry}
 use Rattle.engine_core.specs.declared.entries.Entry.TheVariants.{Alone, Began, Ran, Denied, Ended, Failed}
 use Rattle.engine_core.specs.declared.entries.Answer.TheVariants.{Gave, Refused}
 use Rattle.engine_core.specs.declared.entries.Broken.TheVariants as broken
-use Rattle.hrana_serve.specs.Written.{ok_data, failed_data, opened_data, executed_data, message_of}
+use Rattle.hrana_serve.specs.Written.{ok_data, failed_data, executed_data, message_of}
 use Rattle.hrana_serve.specs.Means.{reply_data, shown}
 use Rattle.hrana_serve.specs.declared.replies.Out.{Out}
 
@@ -27,12 +27,6 @@ of_ok id d h = neither _ _ (of_id id) (neither _ _ h refl)
 
 of_failed : (id : ℤ) (code : Code) → has_float (failed_data id code) ≡ false
 of_failed id code = neither _ _ (has_float-error_data (error_of code)) (neither _ _ (of_id id) refl)
-
-pub of_opened : (id : ℤ) → has_float (ok_data id opened_data) ≡ false
-of_opened id = of_ok id opened_data refl
-
-pub of_refusal : (id : ℤ) (code : Code) → has_float (failed_data id code) ≡ false
-of_refusal id code = of_failed id code
 
 of_reply : (id : ℤ) (wanted : Bool) (e : Entry) → has_float (reply_data id wanted e) ≡ false
 of_reply id wanted (Alone stream stmt (Gave given) wrote) = of_ok id (executed_data (shown wanted given)) (neither _ _ (has_float-result_data (shown wanted given)) refl)

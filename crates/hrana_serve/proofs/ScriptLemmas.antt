@@ -84,17 +84,6 @@ IsLineOf-one line (Poll n) (Poll m) p q = ap poll_of (one_prefixed n.0 m.0 33 p.
 IsLineOf-one line (Poll n) Stop p q = absurd q.written
 IsLineOf-one line Stop f p q = absurd p.written
 
--- what fits is of connection 1
-Fits-of_one : (s : State) (e : Event) → Fits s e → IsOfOne e
-Fits-of_one s (Opened c) f = f.0
-Fits-of_one s (Text c t) f = f.0
-Fits-of_one s (Poll n) f = tt
-Fits-of_one s Stop f = tt
-
 -- the event of the line doesn't fit
 pub bad_event : (s : State) (line : List ℕ) (e : Event) → (line ≡ [] → ⊥) → IsLineOf line e → (Fits s e → ⊥) → IsBadLine s line
 bad_event s line e filled is none = record { filled = filled; unfit = λ f was fits. none (subst (Fits s) (IsLineOf-one line f e was is) fits) }
-
--- the line is no event's on connection 1
-pub bad_line : (s : State) (line : List ℕ) → (line ≡ [] → ⊥) → ((e : Event) → IsOfOne e → IsLineOf line e → ⊥) → IsBadLine s line
-bad_line s line filled none = record { filled = filled; unfit = λ e is fits. none e (Fits-of_one s e fits) is }
