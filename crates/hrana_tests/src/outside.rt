@@ -4,7 +4,7 @@ ghost use Rattle.engine_core.specs.Engine.{IsReadOrWrite};
 ghost use Rattle.engine_core.specs.Transactions.{NoneLive};
 
 use engine_core::*;
-use hrana_stmt::{Code, StmtResult};
+use hrana_stmt::Code;
 use hrana_value::{StreamNo, Txt, Value, Values};
 use sql_text::class_of;
 use std::alloc::Global;
@@ -41,23 +41,26 @@ fn statement(alloc: Global, sql: &str, value: Value) -> Result<BoundStmt, NoMemo
     })
 }
 
-/// Runs a statement alone, where no transaction lives.
-fn run_alone<E: Engine>(engine: &mut E, stmt: &BoundStmt) -> Result<StmtResult, EngineFail>
-    requires class { IsReadOrWrite stmt.now.class }
-    requires quiet { NoneLive (E.live engine.old) }
-    ensures quiet { NoneLive (E.live engine.new) }
+/// Runs a statement alone, where no transaction lives: the counts of rows that it changed and gave.
+fn run_alone(alloc: Global, keeper: &mut PlainKeeper, sql: &str) -> Result<(u64, usize), EngineFail>
+    requires quiet { NoneLive (⟦<PlainKeeper as Engine>⟧.live keeper.old) }
+    ensures quiet { NoneLive (⟦<PlainKeeper as Engine>⟧.live keeper.new) }
 {
-    engine.alone(stmt)
+    let stmt = statement(alloc, sql, Value::Integer(5))?;
+    let given = keeper.alone(&stmt)?;
+    Ok((given.affected, given.rows.as_slice().len()))
 }
 
-/// Runs a statement in a transaction of its own.
-fn run_in_one(engine: &mut Failing<PlainKeeper>, stmt: &BoundStmt) -> Result<(), EngineFail>
-    requires class { IsReadOrWrite stmt.now.class }
+/// Inserts a row in a transaction, and counts the rows then.
+fn insert_in_one(alloc: Global, engine: &mut Failing<PlainKeeper>) -> Result<usize, EngineFail>
     requires quiet { NoneLive (⟦<Failing<PlainKeeper> as Engine>⟧.live engine.old) }
 {
+    let insert = statement(alloc, INSERT, Value::Integer(7))?;
+    let select = statement(alloc, SELECT, Value::Null)?;
     engine.begin(1, true)?;
-    engine.run(1, stmt)?;
-    engine.commit(1)
+    engine.run(1, &insert)?;
+    engine.commit(1)?;
+    Ok(engine.alone(&select)?.rows.as_slice().len())
 }
 
 #[test]
@@ -78,49 +81,36 @@ fn statuses_have_texts(rt: HostRuntime) -> Result<(), Fail> {
 #[test]
 fn plain_keeper_runs_two_statements(rt: HostRuntime) -> Result<(), Fail> {
     let alloc = rt.alloc();
-    let insert = statement(alloc, INSERT, Value::Integer(5))?;
-    let other = statement(alloc, "INSERT INTO t VALUES (5)", Value::Null)?;
-    let select = statement(alloc, SELECT, Value::Null)?;
     let mut keeper = PlainKeeper::new(alloc)?;
-    assert_eq!(rt; run_alone(&mut keeper, &insert)?.last_rowid, Some(1));
-    let refused = run_alone(&mut keeper, &other);
-    assert_eq!(rt; refused.err(), Some(EngineFail::Refused(Code::Syntax)));
-    assert_eq!(rt; run_alone(&mut keeper, &insert)?.last_rowid, Some(2));
-    assert_eq!(rt; run_alone(&mut keeper, &select)?.rows.as_slice().len(), 2);
+    let given = [
+        run_alone(alloc, &mut keeper, INSERT),
+        run_alone(alloc, &mut keeper, "INSERT INTO t VALUES (5)"),
+        run_alone(alloc, &mut keeper, INSERT),
+        run_alone(alloc, &mut keeper, SELECT),
+    ];
+    let wanted = [
+        Ok((1, 0)),
+        Err(EngineFail::Refused(Code::Syntax)),
+        Ok((1, 0)),
+        Ok((0, 2)),
+    ];
+    assert_eq!(rt; given, wanted);
     Ok(())
 }
 
 #[test]
 fn listed_calls_of_an_engine_fail(rt: HostRuntime) -> Result<(), Fail> {
     let alloc = rt.alloc();
-    let insert = statement(alloc, INSERT, Value::Integer(7))?;
     for (at, wanted) in [
         (1, Err(EngineFail::Fault)),
         (2, Err(EngineFail::Fault)),
         (3, Err(EngineFail::Fault)),
-        (4, Ok(())),
+        (4, Err(EngineFail::Fault)),
+        (5, Ok(1)),
     ] {
         let mut engine = Failing::new(alloc, PlainKeeper::new(alloc)?, &[at])?;
-        assert_eq!(rt; run_in_one(&mut engine, &insert), wanted, "at call {at}");
+        assert_eq!(rt; insert_in_one(alloc, &mut engine), wanted, "at call {at}");
     }
-    let mut engine = Failing::new(alloc, PlainKeeper::new(alloc)?, &[1, 3])?;
-    assert!(rt; run_alone(&mut engine, &insert).is_err());
-    assert!(rt; run_alone(&mut engine, &insert).is_ok());
-    assert!(rt; run_alone(&mut engine, &insert).is_err());
-    assert!(rt; run_alone(&mut engine, &insert).is_ok());
-    Ok(())
-}
-
-#[test]
-fn a_commit_is_kept(rt: HostRuntime) -> Result<(), Fail> {
-    let alloc = rt.alloc();
-    let insert = statement(alloc, INSERT, Value::Integer(7))?;
-    let select = statement(alloc, SELECT, Value::Null)?;
-    let mut keeper = PlainKeeper::new(alloc)?;
-    keeper.begin(1, true)?;
-    keeper.run(1, &insert)?;
-    keeper.commit(1)?;
-    assert_eq!(rt; keeper.alone(&select)?.rows.as_slice().len(), 1);
     Ok(())
 }
 

@@ -1,12 +1,11 @@
 // Whole runs of the top call over memory.
 ghost use Rattle.engine_core.specs.Transactions.{NoneLive};
 
-use engine_core::{
-    Broken, ByteSink, ByteSource, Engine, Entry, Failing, NoMemory, PlainKeeper, Sink,
-};
+use engine_core::{ByteSink, ByteSource, Engine, Failing, NoMemory, PlainKeeper, Sink};
 use hrana_serve::{Ended, Status, World, hrana};
 use memory_keeper::MemoryKeeper;
 use std::alloc::Global;
+use std::process::Abort;
 use std::test::Fail;
 
 const HELLO: &str = "\
@@ -45,23 +44,34 @@ fn execute(alloc: Global, id: usize, stmt: &str) -> Result<String, NoMemory> {
     )?)
 }
 
-fn given(alloc: Global, id: usize, answer: &str) -> Result<String, NoMemory> {
+/// The reply to an `execute`: a result, or a code and its message.
+fn reply(alloc: Global, id: usize, code: &str, text: &str) -> Result<String, NoMemory> {
+    if code.is_empty() {
+        return Ok(format!(in alloc;
+            "< 1 {{\"request_id\":{id},\"response\":{{\"result\":{text},\"type\":\"execute\"}},\"type\":\"response_ok\"}}\n"
+        )?);
+    }
     Ok(format!(in alloc;
-        "< 1 {{\"request_id\":{id},\"response\":{{\"result\":{answer},\"type\":\"execute\"}},\"type\":\"response_ok\"}}\n"
+        "< 1 {{\"error\":{{\"code\":\"{code}\",\"message\":\"{text}\"}},\"request_id\":{id},\"type\":\"response_error\"}}\n"
     )?)
 }
 
-fn refused(alloc: Global, id: usize, code: &str, message: &str) -> Result<String, NoMemory> {
-    Ok(format!(in alloc;
-        "< 1 {{\"error\":{{\"code\":\"{code}\",\"message\":\"{message}\"}},\"request_id\":{id},\"type\":\"response_error\"}}\n"
-    )?)
+/// A script that opens a stream and executes two statements.
+fn script_of(alloc: Global, second: &str, third: &str) -> Result<String, NoMemory> {
+    let second = execute(alloc, 2, second)?;
+    let third = execute(alloc, 3, third)?;
+    Ok(format!(in alloc; "{OPEN}{second}{third}")?)
 }
 
-/// An insert and a select.
-fn plain(alloc: Global) -> Result<String, NoMemory> {
-    let insert = execute(alloc, 2, INSERT)?;
-    let select = execute(alloc, 3, SELECT)?;
-    Ok(format!(in alloc; "{OPEN}{insert}{select}")?)
+/// What such a script is answered.
+fn answers_of(
+    alloc: Global,
+    second: (&str, &str),
+    third: (&str, &str),
+) -> Result<String, NoMemory> {
+    let second = reply(alloc, 2, second.0, second.1)?;
+    let third = reply(alloc, 3, third.0, third.1)?;
+    Ok(format!(in alloc; "{OPEN_OUT}{second}{third}")?)
 }
 
 fn play<E: Engine + Drop>(
@@ -84,18 +94,39 @@ fn play<E: Engine + Drop>(
     Ok((ended, sink))
 }
 
-/// Plays the script over a plain keeper, and a source and a sink without faults.
-fn replay(alloc: Global, script: &str) -> Result<(Ended, ByteSink), NoMemory> {
-    play(alloc, "replay", script, 0, 0, PlainKeeper::new(alloc)?)
+/// What a run is to end with.
+#[derive(Clone, Copy)]
+struct Wanted<'a> {
+    status: Status,
+    events: u64,
+    entries: usize,
+    out: &'a str,
+}
+
+/// Plays the script, where the read and the write of these numbers fail, and compares how it ended and what was written.
+fn compare<E: Engine + Drop>(
+    rt: &impl Abort,
+    alloc: Global,
+    script: &str,
+    read_fault: u64,
+    write_fault: u64,
+    engine: E,
+    wanted: Wanted,
+) -> Result<(), Fail>
+    requires { NoneLive (E.live engine) }
+{
+    let (ended, sink) = play(alloc, "replay", script, read_fault, write_fault, engine)?;
+    let end = (ended.status, ended.events, ended.unsaved.len());
+    assert_eq!(rt; sink.bytes(), wanted.out.as_bytes());
+    assert_eq!(rt; end, (wanted.status, wanted.events, wanted.entries));
+    Ok(())
 }
 
 #[test]
 fn events_are_answered(rt: HostRuntime) -> Result<(), Fail> {
     let alloc = rt.alloc();
-    let plain = plain(alloc)?;
-    let insert = given(alloc, 2, INSERTED)?;
-    let select = given(alloc, 3, ONE_ROW)?;
-    let wanted = format!(in alloc; "{OPEN_OUT}{insert}{select}")?;
+    let script = script_of(alloc, INSERT, SELECT)?;
+    let out = answers_of(alloc, ("", INSERTED), ("", ONE_ROW))?;
     for (tail, status, events) in [
         ("", Status::Done, 7),
         ("\n! 1\n\n! 2", Status::Done, 9),
@@ -114,22 +145,37 @@ fn events_are_answered(rt: HostRuntime) -> Result<(), Fail> {
             7,
         ),
     ] {
-        let script = format!(in alloc; "{plain}{tail}")?;
-        let (ended, sink) = replay(alloc, script.as_str())?;
-        assert_eq!(rt; ended.status, status, "at {tail}");
-        assert_eq!(rt; ended.events, events, "at {tail}");
-        assert_eq!(rt; ended.unsaved.len(), 2, "at {tail}");
-        assert_eq!(rt; sink.bytes(), wanted.as_bytes(), "at {tail}");
+        let wanted = Wanted {
+            status,
+            events,
+            entries: 2,
+            out: out.as_str(),
+        };
+        let script = format!(in alloc; "{script}{tail}")?;
+        compare(
+            &rt,
+            alloc,
+            script.as_str(),
+            0,
+            0,
+            PlainKeeper::new(alloc)?,
+            wanted,
+        )?;
     }
     Ok(())
 }
 
 #[test]
 fn short_scripts_are_done(rt: HostRuntime) -> Result<(), Fail> {
-    for (script, wanted) in [("", ""), (HELLO, HELLO_OUT)] {
-        let (ended, sink) = replay(rt.alloc(), script)?;
-        assert_eq!(rt; ended.status, Status::Done, "at {script}");
-        assert_eq!(rt; sink.bytes(), wanted.as_bytes(), "at {script}");
+    let alloc = rt.alloc();
+    for (script, out, events) in [("", "", 0), (HELLO, HELLO_OUT, 2)] {
+        let wanted = Wanted {
+            status: Status::Done,
+            events,
+            entries: 0,
+            out,
+        };
+        compare(&rt, alloc, script, 0, 0, PlainKeeper::new(alloc)?, wanted)?;
     }
     Ok(())
 }
@@ -150,17 +196,34 @@ fn statements_that_are_not_built_are_bad(rt: HostRuntime) -> Result<(), Fail> {
         "{\"sql\":\"ROLLBACK; SELECT a FROM t\"}",
         "{\"sql\":\"SELECT ?, ?\",\"args\":[{\"type\":\"float\",\"value\":1.5},{\"type\":\"null\"}]}",
     ] {
-        let line = execute(alloc, 2, stmt)?;
-        let script = format!(in alloc; "{OPEN}{line}")?;
-        let (ended, sink) = replay(alloc, script.as_str())?;
-        assert_eq!(rt; ended.status, Status::BadScript { line: 4 }, "at {stmt}");
-        assert_eq!(rt; sink.bytes(), OPEN_OUT.as_bytes(), "at {stmt}");
+        let script = script_of(alloc, stmt, SELECT)?;
+        let wanted = Wanted {
+            status: Status::BadScript { line: 4 },
+            events: 3,
+            entries: 0,
+            out: OPEN_OUT,
+        };
+        compare(
+            &rt,
+            alloc,
+            script.as_str(),
+            0,
+            0,
+            PlainKeeper::new(alloc)?,
+            wanted,
+        )?;
     }
     Ok(())
 }
 
-/// Statements after a table with one row was made, and what each is answered: a code and its message, or a result.
-const STATEMENTS: [(&str, &str, &str); 15] = [
+/// Statements one after another, and what each is answered: a code and its message, or a result.
+const STATEMENTS: [(&str, &str, &str); 17] = [
+    (
+        "CREATE TABLE t (a PRIMARY KEY, b)",
+        "",
+        "{\"affected_row_count\":0,\"cols\":[],\"last_insert_rowid\":null,\"rows\":[]}",
+    ),
+    ("INSERT INTO t VALUES (1, 'x')", "", INSERTED),
     ("SELECT 'x", "SQL_OPEN", "quote or comment is not closed"),
     (" ; -- x", "NO_STATEMENT", "text holds no statement"),
     (
@@ -202,89 +265,109 @@ const STATEMENTS: [(&str, &str, &str); 15] = [
     ),
 ];
 
+/// Adds a statement to a script, and its reply to the output.
+fn add_statement(
+    alloc: Global,
+    script: &mut String,
+    out: &mut String,
+    id: usize,
+    row: (&str, &str, &str),
+) -> Result<(), NoMemory> {
+    let (sql, code, text) = row;
+    let stmt = format!(in alloc; "{{\"sql\":\"{sql}\"}}")?;
+    script.push_str(execute(alloc, id, stmt.as_str())?.as_str())?;
+    out.push_str(reply(alloc, id, code, text)?.as_str())?;
+    Ok(())
+}
+
 #[test]
 fn sql_is_answered(rt: HostRuntime) -> Result<(), Fail> {
     let alloc = rt.alloc();
     let mut script = format!(in alloc; "{OPEN}")?;
-    let mut wanted = format!(in alloc; "{OPEN_OUT}")?;
-    script.push_str(execute(
-        alloc,
-        2,
-        "{\"sql\":\"CREATE TABLE t (a PRIMARY KEY, b)\"}",
-    )?.as_str())?;
-    wanted.push_str(given(
-        alloc,
-        2,
-        "{\"affected_row_count\":0,\"cols\":[],\"last_insert_rowid\":null,\"rows\":[]}",
-    )?
-    .as_str())?;
-    script.push_str(execute(alloc, 3, "{\"sql\":\"INSERT INTO t VALUES (1, 'x')\"}")?.as_str())?;
-    wanted.push_str(given(alloc, 3, INSERTED)?.as_str())?;
-    for (at, (sql, code, text)) in STATEMENTS.iter().enumerate() {
-        let stmt = format!(in alloc; "{{\"sql\":\"{sql}\"}}")?;
-        script.push_str(execute(alloc, at, stmt.as_str())?.as_str())?;
-        let out = if code.is_empty() {
-            given(alloc, at, text)?
-        } else {
-            refused(alloc, at, code, text)?
-        };
-        wanted.push_str(out.as_str())?;
+    let mut out = format!(in alloc; "{OPEN_OUT}")?;
+    for (id, row) in STATEMENTS.iter().enumerate() {
+        add_statement(alloc, &mut script, &mut out, id, *row)?;
     }
-    let (ended, sink) = play(
+    let wanted = Wanted {
+        status: Status::Done,
+        events: 37,
+        entries: 10,
+        out: out.as_str(),
+    };
+    compare(
+        &rt,
         alloc,
-        "replay",
         script.as_str(),
         0,
         0,
         MemoryKeeper::new(alloc)?,
-    )?;
-    assert_eq!(rt; ended.status, Status::Done);
-    assert_eq!(rt; ended.unsaved.len(), 10);
-    assert_eq!(rt; sink.bytes(), wanted.as_bytes());
-    Ok(())
+        wanted,
+    )
+}
+
+/// A statement whose one value is a text of this length.
+fn select_text(alloc: Global, length: usize) -> Result<String, NoMemory> {
+    let mut text = String::new(alloc);
+    for _ in 0..length {
+        text.push('x')?;
+    }
+    Ok(format!(in alloc;
+        "{{\"sql\":\"SELECT ?\",\"args\":[{{\"type\":\"text\",\"value\":\"{text}\"}}]}}"
+    )?)
 }
 
 #[test]
 fn a_large_result_is_refused(rt: HostRuntime) -> Result<(), Fail> {
     let alloc = rt.alloc();
     // A text counts 8 and its length: one more than 1,048,576 bytes.
-    let text = vec![in alloc; b'x'; 1048569]?;
-    let text = String::from_utf8(text)?;
-    let stmt = format!(in alloc;
-        "{{\"sql\":\"SELECT ?\",\"args\":[{{\"type\":\"text\",\"value\":\"{text}\"}}]}}"
-    )?;
-    let line = execute(alloc, 2, stmt.as_str())?;
-    let script = format!(in alloc; "{OPEN}{line}")?;
-    let out = refused(alloc, 2, "RESULT_TOO_LARGE", "result is too large")?;
-    let wanted = format!(in alloc; "{OPEN_OUT}{out}")?;
-    let (_, sink) = play(
+    let stmt = select_text(alloc, 1048569)?;
+    let script = script_of(alloc, stmt.as_str(), "{\"sql\":\"SELECT\"}")?;
+    let out = answers_of(
         alloc,
-        "replay",
+        ("RESULT_TOO_LARGE", "result is too large"),
+        ("SYNTAX", "statement is not understood"),
+    )?;
+    let wanted = Wanted {
+        status: Status::Done,
+        events: 7,
+        entries: 2,
+        out: out.as_str(),
+    };
+    compare(
+        &rt,
+        alloc,
         script.as_str(),
         0,
         0,
         MemoryKeeper::new(alloc)?,
-    )?;
-    assert_eq!(rt; sink.bytes(), wanted.as_bytes());
-    Ok(())
+        wanted,
+    )
 }
 
 #[test]
 fn unwanted_rows_are_left_out(rt: HostRuntime) -> Result<(), Fail> {
     let alloc = rt.alloc();
-    let insert = execute(alloc, 2, INSERT)?;
-    let select = execute(
+    let script = script_of(
         alloc,
-        3,
+        INSERT,
         "{\"sql\":\"SELECT a FROM t\",\"want_rows\":false}",
     )?;
-    let script = format!(in alloc; "{OPEN}{insert}{select}")?;
-    let insert = given(alloc, 2, INSERTED)?;
-    let select = given(alloc, 3, NO_ROWS)?;
-    let wanted = format!(in alloc; "{OPEN_OUT}{insert}{select}")?;
-    let (_, sink) = replay(alloc, script.as_str())?;
-    assert_eq!(rt; sink.bytes(), wanted.as_bytes());
-    Ok(())
+    let out = answers_of(alloc, ("", INSERTED), ("", NO_ROWS))?;
+    let wanted = Wanted {
+        status: Status::Done,
+        events: 7,
+        entries: 2,
+        out: out.as_str(),
+    };
+    compare(
+        &rt,
+        alloc,
+        script.as_str(),
+        0,
+        0,
+        PlainKeeper::new(alloc)?,
+        wanted,
+    )
 }
 
 #[test]
@@ -297,74 +380,70 @@ fn no_33rd_request_waits(rt: HostRuntime) -> Result<(), Fail> {
             "> 1 {{\"type\":\"request\",\"request_id\":{at},\"request\":{{\"type\":\"execute\",\"stream_id\":7,\"stmt\":{SELECT}}}}}\n"
         )?;
     }
-    let (ended, _) = replay(alloc, script.as_str())?;
-    assert_eq!(rt; ended.status, Status::BadScript { line: 36 });
-    assert_eq!(rt; ended.events, 35);
-    Ok(())
+    let wanted = Wanted {
+        status: Status::BadScript { line: 36 },
+        events: 35,
+        entries: 0,
+        out: OPEN_OUT,
+    };
+    compare(
+        &rt,
+        alloc,
+        script.as_str(),
+        0,
+        0,
+        PlainKeeper::new(alloc)?,
+        wanted,
+    )
 }
 
 #[test]
 fn faults_of_reads_and_writes_end_the_run(rt: HostRuntime) -> Result<(), Fail> {
     let alloc = rt.alloc();
-    let script = plain(alloc)?;
-    let insert = given(alloc, 2, INSERTED)?;
-    let inserted = format!(in alloc; "{OPEN_OUT}{insert}")?;
+    let script = script_of(alloc, INSERT, SELECT)?;
     // The source is read in two calls, of which the second finds the end.
-    for (read, write, status, wanted, events, entries) in [
+    for (read, write, status, out, events, entries) in [
         (1, 0, Status::ReadFault, "", 0, 0),
         (2, 0, Status::ReadFault, "", 0, 0),
         (0, 1, Status::WriteFault, "", 2, 0),
         (0, 2, Status::WriteFault, HELLO_OUT, 3, 0),
         (0, 3, Status::WriteFault, OPEN_OUT, 5, 1),
-        (0, 4, Status::WriteFault, inserted.as_str(), 7, 2),
     ] {
-        let keeper = PlainKeeper::new(alloc)?;
-        let (ended, sink) = play(alloc, "replay", script.as_str(), read, write, keeper)?;
-        assert_eq!(rt; ended.status, status, "at calls {read} and {write}");
-        assert_eq!(rt;
-            sink.bytes(),
-            wanted.as_bytes(),
-            "at calls {read} and {write}"
-        );
-        assert_eq!(rt; ended.events, events, "at calls {read} and {write}");
-        assert_eq!(rt; ended.unsaved.len(), entries, "at calls {read} and {write}");
+        let wanted = Wanted {
+            status,
+            events,
+            entries,
+            out,
+        };
+        compare(
+            &rt,
+            alloc,
+            script.as_str(),
+            read,
+            write,
+            PlainKeeper::new(alloc)?,
+            wanted,
+        )?;
     }
     Ok(())
 }
 
-fn is_fault(entry: &Entry) -> bool {
-    match entry {
-        Entry::Failed {
-            unit: None,
-            cause: Broken::Fault,
-            ..
-        } => true,
-        _ => false,
-    }
-}
+const FAULT: (&str, &str) = ("ENGINE_FAULT", "engine failed");
 
 #[test]
 fn faults_of_an_engine_are_answered(rt: HostRuntime) -> Result<(), Fail> {
     let alloc = rt.alloc();
-    let script = plain(alloc)?;
-    for (at, select, faults) in [(1, NO_ROWS, [true, false]), (2, "", [false, true])] {
-        let insert = if faults[0] {
-            refused(alloc, 2, "ENGINE_FAULT", "engine failed")?
-        } else {
-            given(alloc, 2, INSERTED)?
+    let script = script_of(alloc, INSERT, SELECT)?;
+    for (at, insert, select) in [(1, FAULT, ("", NO_ROWS)), (2, ("", INSERTED), FAULT)] {
+        let out = answers_of(alloc, insert, select)?;
+        let wanted = Wanted {
+            status: Status::Done,
+            events: 7,
+            entries: 2,
+            out: out.as_str(),
         };
-        let select = if faults[1] {
-            refused(alloc, 3, "ENGINE_FAULT", "engine failed")?
-        } else {
-            given(alloc, 3, select)?
-        };
-        let wanted = format!(in alloc; "{OPEN_OUT}{insert}{select}")?;
         let engine = Failing::new(alloc, PlainKeeper::new(alloc)?, &[at])?;
-        let (ended, sink) = play(alloc, "replay", script.as_str(), 0, 0, engine)?;
-        assert_eq!(rt; ended.status, Status::Done, "at call {at}");
-        assert_eq!(rt; sink.bytes(), wanted.as_bytes(), "at call {at}");
-        let failed: Vec<bool> = ended.unsaved.iter().map(is_fault).collect(alloc)?;
-        assert_eq!(rt; failed.as_slice(), faults.as_slice(), "at call {at}");
+        compare(&rt, alloc, script.as_str(), 0, 0, engine, wanted)?;
     }
     Ok(())
 }
