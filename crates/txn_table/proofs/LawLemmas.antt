@@ -9,23 +9,20 @@ use Rattle.txn_table.specs.declared.table.Need.{Need}
 use Rattle.txn_table.specs.declared.table.Need.TheVariants.{Alone, Begin, Upgrade}
 use Rattle.txn_table.specs.declared.table.Grant.{Grant}
 use Rattle.txn_table.specs.declared.table.Grant.TheVariants.{Now, Wait, Stale, Held}
-use Rattle.txn_table.proofs.TicketLemmas.{same, other}
+use Rattle.txn_table.proofs.StreamLemmas.{same, other, true_not_false}
 
-some_one : {X : Type 0} {x y : X} → ◌≡◌ {A = Option X} (Some x) (Some y) → x ≡ y
+pub some_one : {X : Type 0} {x y : X} → ◌≡◌ {A = Option X} (Some x) (Some y) → x ≡ y
 some_one e = cc
 
-none_some : {X : Type 0} {x : X} → ◌≡◌ {A = Option X} None (Some x) → ⊥
+pub none_some : {X : Type 0} {x : X} → ◌≡◌ {A = Option X} None (Some x) → ⊥
 none_some e = cc
-
-true_not_false : true ≡ false → ⊥
-true_not_false e = cc
 
 -- ---- the turn given back
 
 given_other : (holder stream : StreamNo) → stream ≢ holder → given_back (Some holder) stream ≡ Some holder
 given_other holder stream ne = rw (other holder stream (λ e. ne (sym e))) refl
 
-given_some : (turn : Option StreamNo) (stream holder : StreamNo) → given_back turn stream ≡ Some holder → (turn ≡ Some holder) × (stream ≢ holder)
+pub given_some : (turn : Option StreamNo) (stream holder : StreamNo) → given_back turn stream ≡ Some holder → (turn ≡ Some holder) × (stream ≢ holder)
 given_some None stream holder e = absurd (none_some e)
 given_some (Some h) stream holder e = elim (cases_Bool (same_stream h stream)) [
   | inl t ↦ absurd (none_some (let f : ◌≡◌ {A = Option StreamNo} None (Some holder) = rw t at e in f))

@@ -11,19 +11,8 @@ use Rattle.hrana_value.specs.declared.StreamNo.{StreamNo}
 use Rattle.txn_table.specs.declared.tickets.Ticket.{Ticket}
 use Rattle.txn_table.specs.Turns.{same_stream, has, without, queued, placed}
 use Rattle.txn_table.specs.Tickets.{streams_of, IsRising, AreInOrder, AreApart, AreHeld, HasNone, IsAt, IsBetween, IsAmong, IsWaiterOf, AreSound}
+use Rattle.txn_table.proofs.StreamLemmas.{stream_one, same, other, true_not_false, or_true}
 use Rattle.txn_table.proofs.ListLemmas.{within, holds_at, AllPairs-tail, AllPairs-head, AllPairs-insert, Contains-insert, All-remove, Contains-remove, length-contained}
-
-stream_one : (x y : StreamNo) → x.0 ≡ y.0 → x ≡ y
-stream_one x y e = ap (λ (n : ℕ). let s : StreamNo = record { 0 = n } in s) e
-
-pub same : (x y : StreamNo) → x ≡ y → same_stream x y ≡ true
-same x y e = eq-eqb x.0 y.0 (ap (λ (s : StreamNo). s.0) e)
-
-pub other : (x y : StreamNo) → x ≢ y → same_stream x y ≡ false
-other x y ne = ne_eqb x.0 y.0 (λ e. ne (stream_one x y e))
-
-true_not_false : true ≡ false → ⊥
-true_not_false e = cc
 
 -- ---- a search in halves
 
@@ -87,10 +76,12 @@ pub has_at : (xs : List Ticket) (s : StreamNo) (i : ℕ) → IsAt xs s i → has
 has_at [] s i at = absurd at
 has_at (x ∷ xs) s zero at = rw (same x.stream s at) refl
 has_at (x ∷ xs) s (suc i) at = rw (has_at xs s i at) (or_true (same_stream x.stream s))
-  where
-    or_true : (a : Bool) → (a || true) ≡ true
-    or_true true = refl
-    or_true false = refl
+
+-- the stream of a ticket in a list
+pub has_ticket : (xs : List Ticket) (x : Ticket) → Contains xs x → has x.stream (streams_of xs) ≡ true
+has_ticket [] x h = absurd (omega (arith, h.1))
+has_ticket (y ∷ ys) x (zero, lt, e) = rw (same y.stream x.stream (ap (λ (t : Ticket). t.stream) e)) refl
+has_ticket (y ∷ ys) x (suc k, lt, e) = rw (has_ticket ys x (k, omega arith, e)) (or_true (same_stream y.stream x.stream))
 
 pub without_none : (xs : List Ticket) (s : StreamNo) → HasNone xs s → without s (streams_of xs) ≡ streams_of xs
 without_none [] s none = refl
@@ -321,11 +312,6 @@ length_streams (x ∷ xs) = ap (λ n. suc n) (length_streams xs)
 pub none_of_streams : (xs : List Ticket) (stream : StreamNo) → All (λ (x : StreamNo). x ≢ stream) (streams_of xs) → HasNone xs stream
 none_of_streams xs stream all k d lt e = all k d.stream (omega (arith, length_streams xs)) (stream_at xs k d ∙ e)
 
-pub none_left : (xs : List StreamNo) (stream : StreamNo) → All (λ (x : StreamNo). x ≢ stream) (without stream xs)
-none_left xs stream k d lt e =
-    let passes : not (same_stream (get_or (without stream xs) k d) stream) ≡ true = filter_passes (λ (x : StreamNo). not (same_stream x stream)) xs k d lt in
-    true_not_false (sym passes ∙ ap not (same _ _ e))
-
 -- behind the tickets of one number stand those of higher ones
 pub past_numbers : (waiters : List Ticket) (i : ℕ) (d ticket : Ticket) → AreInOrder waiters → i < length waiters → ((k : ℕ) (e : Ticket) → k < i → get_or waiters k e ≢ ticket)
     → ((k : ℕ) (e : Ticket) → i ≤ k → k < length waiters → ticket.number ≤ (get_or waiters k e).number) → (get_or waiters i d).number ≢ ticket.number → All (λ (w : Ticket). w ≢ ticket) waiters
@@ -343,3 +329,13 @@ past_numbers waiters i d ticket in_order lt none up ne k e inside f = elim (case
       ] in
       ne (omega arith)
 ]
+
+-- the first waiter has a place
+pub has_first : (places waiters : List Ticket) (w : Ticket) → AreHeld places waiters → ◌≡◌ {A = Option Ticket} (Some w) (slice_get waiters 0) → has w.stream (streams_of places) ≡ true
+has_first places [] w held e = absurd (let f : ◌≡◌ {A = Option Ticket} (Some w) None = e in cc)
+has_first places (x ∷ xs) w held e =
+    let f : w ≡ x = some_one e in
+    has_ticket places w (subst (λ y. Contains places y) (sym f) (held 0 x (omega arith)))
+  where
+    some_one : {a b : Ticket} → ◌≡◌ {A = Option Ticket} (Some a) (Some b) → a ≡ b
+    some_one e = cc

@@ -1,7 +1,7 @@
 -- Laws over every list of calls.
-use Rattle.std.specs.Prelude.{◌≡◌, ◌≤◌, ◌<◌, ℕ, List}
+use Rattle.std.specs.Prelude.{◌≡◌, ◌≢◌, ◌≤◌, ◌<◌, ℕ, IsTrue, List, Some, All, AllPairs}
 use Rattle.hrana_value.specs.declared.StreamNo.{StreamNo}
-use Rattle.txn_table.specs.Turns.{Turns, grant_of}
+use Rattle.txn_table.specs.Turns.{Turns, has, grant_of}
 use Rattle.txn_table.specs.History.{Call, Run, Holds, commits_of}
 use Rattle.txn_table.specs.declared.table.Need.{Need}
 use Rattle.txn_table.specs.declared.table.Need.TheVariants.{Alone, Begin, Upgrade}
@@ -46,3 +46,12 @@ GrantsExact = (past : List Call) (t : Turns) (need : Need) → Run past t → Is
 
 abbrev pub VersionsExact : Type 0
 VersionsExact = (past : List Call) (t : Turns) → Run past t → (t.version ≡ commits_of past) × ((stream : StreamNo) (version : ℕ) → Holds past stream version → version ≡ commits_of past)
+
+pub record AreOrderly (t : Turns) : Type 0 where
+  pub once : AllPairs (λ (a b : StreamNo). a ≢ b) t.waiters
+  pub placed : All (λ (stream : StreamNo). IsTrue (has stream t.reserved)) t.waiters
+  pub holder_placed : (stream : StreamNo) → t.turn ≡ Some stream → IsTrue (has stream t.reserved)
+  pub holder_apart : (stream : StreamNo) → t.turn ≡ Some stream → All (λ (waiter : StreamNo). waiter ≢ stream) t.waiters
+
+abbrev pub WaitersOrderly : Type 0
+WaitersOrderly = (past : List Call) (t : Turns) → Run past t → AreOrderly t

@@ -1,5 +1,5 @@
 // Laws over every list of calls. Each is a function with an empty body, whose contract is the law.
-ghost use Rattle.txn_table.specs.Laws.{OneHolder, GrantsExact, VersionsExact};
+ghost use Rattle.txn_table.specs.Laws.{OneHolder, GrantsExact, VersionsExact, WaitersOrderly};
 
 /// At most one stream holds the turn.
 pub fn at_most_one_stream_holds_the_turn()
@@ -15,4 +15,9 @@ pub fn each_grant_is_by_the_rules()
 /// one commit, whose stream got the turn at the version before.
 pub fn each_version_is_of_one_commit()
     ensures { VersionsExact }
+{}
+
+/// No stream waits twice, and none that holds the turn waits. Whoever waits or holds the turn has a place.
+pub fn each_waiter_waits_once()
+    ensures { WaitersOrderly }
 {}

@@ -1,5 +1,5 @@
 // The table: one turn, the version, and who waits.
-ghost use Rattle.std.specs.Prelude.{◌≡◌, ◌≢◌, ◌-◌, ◌^◌, ◌<◌, List, IsTrue, All, IfOk, OnOk, OnErr, Some};
+ghost use Rattle.std.specs.Prelude.{◌≡◌, ◌≢◌, ◌-◌, ◌^◌, ◌<◌, List, IsTrue, All, IfOk, IfSome, OnOk, OnErr, Some};
 ghost use Rattle.txn_table.specs.Turns.{no_turns, has, with_place, without, queued, grant_of, after_grant, after_commit, after_end, after_loss, first_waiter};
 
 use crate::tickets::{Ticket, find, waiter_place};
@@ -76,6 +76,7 @@ impl TxnTable {
     /// Makes a place for the stream, unless it has one.
     pub fn reserve_stream(&mut self, stream: StreamNo) -> Result<(), NoMemory>
         ensures ok { OnOk result (self.new ≡ with_place self.old stream) }
+        ensures place { OnOk result (IsTrue (has stream self.new.reserved)) }
         ensures err { OnErr result (self.new ≡ self.old) }
     {
         let place = match find(&self.places, stream) {
@@ -216,11 +217,15 @@ impl TxnTable {
 
     /// The stream that has waited longest, where nobody holds the turn.
     pub fn next_waiter(&self) -> Option<StreamNo>
-        ensures { result ≡ first_waiter self.now.turn self.now.waiters }
+        ensures first { result ≡ first_waiter self.now.turn self.now.waiters }
+        ensures place { IfSome result (λ stream. IsTrue (has stream self.now.reserved)) }
     {
-        match self.turn {
-            Some(_) => None,
-            None => self.waiters.first().map(|w| w.stream),
+        if self.turn.is_some() {
+            return None;
+        }
+        match self.waiters.first() {
+            Some(waiter) => Some(waiter.stream),
+            None => None,
         }
     }
 }

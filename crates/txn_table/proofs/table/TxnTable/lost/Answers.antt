@@ -1,4 +1,4 @@
-use Rattle.txn_table.proofs.TicketLemmas.{none_left}
+use Rattle.txn_table.proofs.StreamLemmas.{none_left}
 use Rattle.txn_table.proofs.table.TxnTable.lost.Goals as goal
 
 pub give_back-requires : goal.give_back-requires

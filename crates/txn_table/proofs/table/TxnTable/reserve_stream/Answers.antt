@@ -1,9 +1,9 @@
-use Rattle.std.proofs.Common.{◌≡◌, List, arith, ap, sym, subst, ◌∙◌}
+use Rattle.std.proofs.Common.{◌≡◌, true, List, arith, ap, sym, subst, ◌∙◌}
 use Rattle.hrana_value.specs.declared.StreamNo.{StreamNo}
 use Rattle.txn_table.specs.declared.tickets.Ticket.{Ticket}
-use Rattle.txn_table.specs.Turns.{Turns, with_place, placed}
+use Rattle.txn_table.specs.Turns.{Turns, has, with_place, placed}
 use Rattle.txn_table.specs.Tickets.{streams_of, IsAt, IsBetween}
-use Rattle.txn_table.proofs.TicketLemmas.{sound_place, placed_at, placed_between}
+use Rattle.txn_table.proofs.TicketLemmas.{sound_place, has_at, placed_at, placed_between}
 use Rattle.txn_table.proofs.table.TxnTable.reserve_stream.Goals as goal
 
 pub returns-in-Ok-clause-ok : goal.returns-in-Ok-clause-ok
@@ -12,6 +12,11 @@ returns-in-Ok-clause-ok c =
     let v : Turns = record { turn = c.self.inside.turn; version = c.self.inside.version; waiters = streams_of c.self.inside.waiters.items; reserved = streams_of c.self.inside.places.items } in
     let is : v ≡ with_place v c.args.stream = ap (λ (ps : List StreamNo). record v { reserved = ps }) (placed_at c.self.inside.places.items c.args.stream c.in-Ok.field-0 c.self.invariant.sound.rising at) in
     subst (λ (x : Turns). x ≡ with_place x c.args.stream) c.self.view_is is
+
+pub returns-in-Ok-clause-place : goal.returns-in-Ok-clause-place
+returns-in-Ok-clause-place c =
+    let at : IsAt c.self.inside.places.items c.args.stream c.in-Ok.field-0 = rw c.deref.ensures.value at c.in-Ok.ensures in
+    subst (λ (x : Turns). has c.args.stream x.reserved ≡ true) c.self.view_is (has_at c.self.inside.places.items c.args.stream c.in-Ok.field-0 at)
 
 pub invariant_of-self-2 : goal.invariant_of-self-2
 invariant_of-self-2 c =
