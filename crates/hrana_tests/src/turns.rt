@@ -27,7 +27,7 @@ fn commit(table: &mut TxnTable, stream: StreamNo) {
     }
 }
 
-fn call(table: &mut TxnTable, number: u64, call: Call) -> Result<Option<Grant>, NoMemory> {
+fn make_call(table: &mut TxnTable, number: u64, call: Call) -> Result<Option<Grant>, NoMemory> {
     let stream = StreamNo(number);
     match call {
         Call::Want(need) => return want(table, stream, need),
@@ -84,7 +84,7 @@ fn streams_wait_for_each_other(rt: HostRuntime) -> Result<(), Fail> {
         (4, Call::Lose, None, 0, 2, 2),
         (3, ALONE, Some(Grant::Now(2)), 3, 0, 2),
     ] {
-        assert_eq!(rt; call(&mut table, stream, what)?, grant);
+        assert_eq!(rt; make_call(&mut table, stream, what)?, grant);
         assert_eq!(rt; number_of(table.turn()), holder);
         assert_eq!(rt; number_of(table.next_waiter()), waiter);
         assert_eq!(rt; table.version(), version);
