@@ -1,10 +1,10 @@
 -- Laws over every list of calls, by induction on runs.
-use Rattle.std.proofs.Common.{◌≡◌, ◌≢◌, ℕ, ◌+◌, ◌-◌, ◌^◌, ◌<◌, ◌≤◌, ◌⊎◌, Bool, true, false, cond, List, [], ◌∷◌, Option, Some, None, refl, sym, ap, subst, ◌∙◌, arith, inl, inr, nat_lt}
+use Rattle.std.proofs.Common.{◌≡◌, ◌≢◌, ℕ, ◌+◌, List, ◌∷◌, Option, Some, None, refl, sym, ap, ◌∙◌, arith, inl, inr, nat_lt}
 use Rattle.std.proofs.lemmas.Bool.{cases_Bool, ltb-true, ltb-false}
 use Rattle.hrana_value.specs.declared.StreamNo.{StreamNo}
-use Rattle.txn_table.specs.Turns.{Turns, same_stream, now_or, grant_of, after_grant, given_back, with_place, after_commit, after_end, after_loss}
-use Rattle.txn_table.specs.History.{Call, reserved, refused, wanted, committed, ended, lost, Run, nothing, reserves, refuses, wants, commits, ends, loses, Holds, commits_of}
-use Rattle.txn_table.specs.Laws.{OneHolder, IsHolder, IsFree, IsFresh, IsUpgrade, MayWait, IsGranted, GrantsExact, VersionsExact}
+use Rattle.txn_table.specs.Turns.{Turns, same_stream, now_or, grant_of, after_grant, given_back}
+use Rattle.txn_table.specs.History.{Call, wanted, Run, nothing, reserves, refuses, wants, commits, ends, loses, Holds, commits_of}
+use Rattle.txn_table.specs.Laws.{OneHolder, IsFresh, IsUpgrade, MayWait, IsGranted, GrantsExact, VersionsExact}
 use Rattle.txn_table.specs.declared.table.Need.{Need}
 use Rattle.txn_table.specs.declared.table.Need.TheVariants.{Alone, Begin, Upgrade}
 use Rattle.txn_table.specs.declared.table.Grant.{Grant}

@@ -1,15 +1,15 @@
 -- The waiters of every run.
-use Rattle.std.proofs.Common.{◌≡◌, ◌≢◌, ℕ, Bool, true, false, not, List, Option, Some, None, refl, sym, ap, subst, ◌∙◌, arith}
-use Rattle.std.specs.List.{All, AllPairs, filter}
+use Rattle.std.proofs.Common.{◌≡◌, ◌≢◌, true, not, List, Some, sym, ap, subst, ◌∙◌, arith}
+use Rattle.std.specs.List.{All, AllPairs}
 use Rattle.std.proofs.lemmas.List.Elements.{All-filter, All-weaker}
 use Rattle.std.proofs.lemmas.List.Kept.{AllPairs-filter}
 use Rattle.hrana_value.specs.declared.StreamNo.{StreamNo}
-use Rattle.txn_table.specs.Turns.{Turns, same_stream, has, without, grant_of, after_grant, given_back, with_place, after_commit, after_end, after_loss}
-use Rattle.txn_table.specs.History.{Call, Run, nothing, reserves, refuses, wants, commits, ends, loses}
+use Rattle.txn_table.specs.Turns.{Turns, same_stream, has, without, grant_of, after_grant, with_place}
+use Rattle.txn_table.specs.History.{nothing, reserves, refuses, wants, commits, ends, loses}
 use Rattle.txn_table.specs.Laws.{AreOrderly, WaitersOrderly}
 use Rattle.txn_table.specs.declared.table.Grant.{Grant}
 use Rattle.txn_table.specs.declared.table.Grant.TheVariants.{Now, Wait, Stale, Held}
-use Rattle.txn_table.proofs.StreamLemmas.{same, other, still_placed, has_without, none_left, All-queued, apart_queued}
+use Rattle.txn_table.proofs.StreamLemmas.{still_placed, has_without, none_left, All-queued, apart_queued}
 use Rattle.txn_table.proofs.LawLemmas.{some_one, none_some, given_some}
 
 abbrev Apart : List StreamNo → Type 0

@@ -1,18 +1,17 @@
 -- On tickets.
-use Rattle.std.proofs.Common.{◌≡◌, ◌≢◌, ℕ, zero, suc, ◌+◌, ◌<◌, ◌≤◌, Bool, true, false, not, ◌||◌, cond, Option, Some, None, List, [], ◌∷◌, ◌++◌, length, get_or, set, map, slice_get, refl, sym, ap, subst, ◌∙◌, arith, inl, inr, nat_lt}
+use Rattle.std.proofs.Common.{◌≡◌, ◌≢◌, ℕ, zero, suc, ◌+◌, ◌<◌, ◌≤◌, true, false, Option, Some, None, List, [], ◌∷◌, ◌++◌, length, get_or, set, slice_get, refl, sym, ap, subst, ◌∙◌, arith, inl, inr, nat_lt}
 use Rattle.std.specs.List.{All, AllPairs, Contains, insert, remove}
 use Rattle.std.specs.List.Sorted.{IsPartitionedBy, IsPartitionPoint}
-use Rattle.std.proofs.lemmas.Bool.{cases_order, cases_lt, ltb-true, lt-ltb, ltb-false, le-ltb, eq-eqb, eqb-true, ne_eqb}
+use Rattle.std.proofs.lemmas.Bool.{cases_order, cases_lt, ltb-true, lt-ltb, ltb-false, le-ltb, ne_eqb}
 use Rattle.std.proofs.lemmas.List.{get_or_default}
-use Rattle.std.proofs.lemmas.Option.{slice_get_read}
-use Rattle.std.proofs.lemmas.List.Elements.{All-push, Contains-get_or, filter_passes}
+use Rattle.std.proofs.lemmas.List.Elements.{All-push, Contains-get_or}
 use Rattle.std.proofs.lemmas.List.Quantifiers.{all_pairs_push, all_pairs_remove}
 use Rattle.hrana_value.specs.declared.StreamNo.{StreamNo}
 use Rattle.txn_table.specs.declared.tickets.Ticket.{Ticket}
 use Rattle.txn_table.specs.Turns.{same_stream, has, without, queued, placed}
 use Rattle.txn_table.specs.Tickets.{streams_of, IsRising, AreInOrder, AreApart, AreHeld, HasNone, IsAt, IsBetween, IsAmong, IsWaiterOf, AreSound}
-use Rattle.txn_table.proofs.StreamLemmas.{stream_one, same, other, true_not_false, or_true}
-use Rattle.txn_table.proofs.ListLemmas.{within, holds_at, AllPairs-tail, AllPairs-head, AllPairs-insert, Contains-insert, All-remove, Contains-remove, length-contained}
+use Rattle.txn_table.proofs.StreamLemmas.{stream_one, same, other, or_true}
+use Rattle.txn_table.proofs.ListLemmas.{within, holds_at, AllPairs-tail, AllPairs-insert, Contains-insert, All-remove, Contains-remove, length-contained}
 
 -- ---- a search in halves
 

@@ -1,4 +1,4 @@
-use Rattle.std.proofs.Common.{◌≡◌, ◌≤◌, List, ◌∷◌, [], ◌++◌, set, true, false, arith, ap, sym, subst, ◌∙◌}
+use Rattle.std.proofs.Common.{◌≡◌, ◌≤◌, List, set, true, false, arith, ap, sym, subst, ◌∙◌}
 use Rattle.hrana_value.specs.declared.StreamNo.{StreamNo}
 use Rattle.txn_table.specs.declared.tickets.Ticket.{Ticket}
 use Rattle.txn_table.specs.Turns.{Turns, has, queued}
