@@ -24,4 +24,6 @@ mod sql_texts;
 #[cfg(test)]
 mod statements;
 #[cfg(test)]
+mod turns;
+#[cfg(test)]
 mod values;

@@ -1,0 +1,4 @@
+pub mod Turns
+pub mod Tickets
+pub mod History
+pub mod Laws
