@@ -5,7 +5,6 @@
 --   TxnTable: lost                            table/TxnTable/lost, from leave and give_back
 --   TxnTable: next_waiter, place              table/TxnTable/next_waiter
 --   the laws                                  laws/, by LawLemmas and OrderLemmas
--- StreamLemmas, on lists of streams, serves the crates above too.
 pub mod ListLemmas
 pub mod StreamLemmas
 pub mod TicketLemmas

@@ -28,16 +28,6 @@ or_true false = refl
 
 -- ---- which streams stand in a list
 
-pub has_placed : (s : StreamNo) (xs : List StreamNo) → has s (placed s xs) ≡ true
-has_placed s [] = rw (same s s refl) refl
-has_placed s (x ∷ xs) = elim (cases_Bool (nat_lt x.0 s.0)) [
-  | inl below ↦ rw (below, has_placed s xs) (or_true (same_stream x s))
-  | inr above ↦ elim (cases_Bool (same_stream x s)) [
-    | inl e ↦ rw (above, e, e) refl
-    | inr ne ↦ rw (above, ne, same s s refl) refl
-  ]
-]
-
 pub still_placed : (k s : StreamNo) (xs : List StreamNo) → has k xs ≡ true → has k (placed s xs) ≡ true
 still_placed k s [] h = absurd (true_not_false (sym h))
 still_placed k s (x ∷ xs) h = elim (cases_Bool (nat_lt x.0 s.0)) [

@@ -187,15 +187,6 @@ set_here (x ∷ xs) (suc i) y at = let r = set_here xs i y at in (suc r.0, omega
 
 -- ---- what the calls keep
 
-pub sound_none : (n : ℕ) → AreSound [] [] n
-sound_none n = record {
-  rising = λ i j d lt inside. absurd (omega arith);
-  in_order = λ i j d lt inside. absurd (omega arith);
-  apart = λ i j d lt inside. absurd (omega arith);
-  held = λ k d lt. absurd (omega arith);
-  given = λ k d lt. absurd (omega arith);
-}
-
 pub sound_place : (places waiters : List Ticket) (last i : ℕ) (y : Ticket) → AreSound places waiters last → IsBetween places y.stream i → AreSound (insert places i y) waiters last
 sound_place places waiters last i y s b = record {
   rising = AllPairs-insert (λ (p q : Ticket). p.stream.0 < q.stream.0) places i y s.rising b.bound b.below b.above;
