@@ -3,10 +3,10 @@ use baton_store::{BatonStore, Redeem, limits_are};
 use hrana_value::StreamNo;
 use std::test::Fail;
 
-// The URL-safe base64 of the bytes 00 00 00 00 00 00 00 01, 01 to 08, and FF down to F8.
+// The URL-safe base64 of the first number and of two words: eight bytes that rise from one, and eight that fall from 255.
 const FIRST: &str = "AAAAAAAAAAEBAgMEBQYHCP_-_fz7-vn4";
 
-// That of 00 00 00 00 00 00 00 02 and sixteen zeros.
+// That of the second number and of two words that are zero.
 const SECOND: &str = "AAAAAAAAAAIAAAAAAAAAAAAAAAAAAAAA";
 
 #[test]
