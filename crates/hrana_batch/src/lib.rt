@@ -11,6 +11,7 @@ mod limits;
 mod outcomes;
 mod result_json;
 mod running;
+mod sending;
 mod step_numbers;
 
 pub use batch_json::{

@@ -75,10 +75,21 @@ abbrev pub sql_member : SqlRef → Members → Members
 sql_member (Text s) ms = member (codes "sql") (string s) ms
 sql_member (Id z) ms = member (codes "sql_id") (number (of_integer z)) ms
 
--- a statement whose arguments are these: what is empty is left out, and so is a `want_rows` that is true
+-- what stands under that name
+abbrev pub sql_part : SqlRef → Data
+sql_part (Text s) = string s
+sql_part (Id z) = number (of_integer z)
+
+-- the members of a statement whose arguments are these: what is empty is left out, and so is a `want_rows` that is true
+abbrev pub stmt_members_of : Stmt → Data → Data → Members
+stmt_members_of s args named =
+    member_unless (is_empty s.args) (codes "args") args (member_unless (is_empty s.named) (codes "named_args") named (sql_member s.sql (member_unless s.want_rows (codes "want_rows") (boolean false) no_members)))
+
 abbrev pub stmt_object : Stmt → Data → Data → Data
-stmt_object s args named =
-    object (member_unless (is_empty s.args) (codes "args") args (member_unless (is_empty s.named) (codes "named_args") named (sql_member s.sql (member_unless s.want_rows (codes "want_rows") (boolean false) no_members))))
+stmt_object s args named = object (stmt_members_of s args named)
+
+abbrev pub stmt_members : Stmt → Members
+stmt_members s = stmt_members_of s (array (values_data s.args)) (named_args_data s.named)
 
 abbrev pub stmt_data : Stmt → Data
-stmt_data s = stmt_object s (array (values_data s.args)) (named_args_data s.named)
+stmt_data s = object (stmt_members s)

@@ -8,8 +8,10 @@ mod errors;
 mod limits;
 mod result_json;
 mod results;
+mod sending;
 mod sql;
 mod statement_json;
+mod statement_text;
 mod statements;
 
 pub use codes::{
@@ -26,9 +28,11 @@ pub use result_json::{
     results_are_read, row_to_json,
 };
 pub use results::{Col, Cols, Rows, StmtResult};
+pub use sending::{send_optional_int64, send_optional_text};
 pub use sql::sql_of_json;
 pub use statement_json::{
     fitting_statements_are_read, no_tree_is_two_statements, object_of_json, put_sql, stmt_of_json,
     stmt_to_json,
 };
+pub use statement_text::send_sql;
 pub use statements::{NamedArg, NamedArgs, SqlRef, Stmt};

@@ -16,6 +16,7 @@ pub mod ItemsLemmas
 pub mod NameLemmas
 pub mod NoFloats
 pub mod PartLemmas
+pub mod SendingLemmas
 pub mod TextLemmas
 pub mod TreeLemmas
 pub mod WrittenItems

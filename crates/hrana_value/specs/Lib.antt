@@ -2,6 +2,8 @@ pub mod Base64
 pub mod Declines
 pub mod Members
 pub mod Names
+pub mod Sent
 pub mod Tree
 pub mod Trees
+pub mod Whole
 pub mod Written

@@ -12,6 +12,7 @@ mod members;
 mod names;
 mod numbers;
 mod readings;
+mod sending;
 mod text;
 mod texts;
 mod tree;
@@ -27,6 +28,7 @@ pub use members::{int32_member, is_absent, member_or_null, text_member};
 pub use names::{index_of, name};
 pub use numbers::{int32, int32_of_json, uint32, uint32_of_json, uint64, uint64_of_json};
 pub use readings::{both_readings, with_item};
+pub use sending::{JsonText, send_int32, send_list, send_uint64, text_of};
 pub use text::Txt;
 pub use texts::text_of_json;
 pub use tree::{

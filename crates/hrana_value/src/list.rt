@@ -77,10 +77,11 @@ impl<T: Duplicate> List<T> {
     pub fn copy(&self, alloc: Global) -> Result<List<T>, NoMemory>
         ensures { IfOk result (λ copy. copy ≡ self.now) }
     {
-        let mut copies = List::new(alloc);
-        for item in self.as_slice() {
+        let items = self.as_slice();
+        let mut copies = Vec::with_capacity(alloc, items.len())?;
+        for item in items {
             copies.push(item.copy(alloc)?)?;
         }
-        Ok(copies)
+        Ok(List { items: copies })
     }
 }

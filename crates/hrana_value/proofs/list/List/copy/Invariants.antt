@@ -2,4 +2,4 @@ use Rattle.std.proofs.Common.{◌≡◌, take}
 use Rattle.hrana_value.proofs.list.List.copy.Given as goal
 
 abbrev pub invariant-loop-item : goal.invariant-loop-item
-invariant-loop-item g l = l.copies ≡ take l.item-index l.self
+invariant-loop-item g l = l.copies.items ≡ take l.item-index l.items

@@ -1,0 +1,215 @@
+// Conditions, batches and their results as JSON text.
+ghost use Rattle.std.specs.Prelude.{OnOk, map};
+ghost use Rattle.serde_json.specs.Data.{array, object};
+ghost use Rattle.serde_json.specs.Events.{SendsValue};
+ghost use Rattle.serde_json.specs.View.{items_of};
+ghost use Rattle.hrana_value.specs.Whole.{IsWhole};
+ghost use Rattle.hrana_batch.specs.Written.{cond_data, type_member, step_cond, step_data, batch_data, result_entry, error_entry, batch_result_object, batch_result_data};
+
+use crate::{Batch, BatchResult, Cond, Outcome, Step};
+use hrana_value::{JsonText, send_uint64};
+use serde::Serializer;
+use std::alloc::Global;
+
+// ---- conditions
+
+fn send_step<S: Serializer>(kind: &str, step: u32, out: &mut S) -> Result<(), S::Error>
+    ensures sends { OnOk result (SendsValue (step_cond kind.now step) (S.written out.old) (S.written out.new)) }
+    ensures whole { OnOk result (IsWhole (step_cond kind.now step)) }
+{
+    out.begin_map(Some(2))?;
+    out.key("step")?;
+    send_uint64(u64::from(step), out)?;
+    out.key("type")?;
+    out.str(kind)?;
+    out.end_map()
+}
+
+fn send_kind<S: Serializer>(kind: &str, out: &mut S) -> Result<(), S::Error>
+    ensures sends { OnOk result (SendsValue (object (type_member kind.now)) (S.written out.old) (S.written out.new)) }
+    ensures whole { OnOk result (IsWhole (object (type_member kind.now))) }
+{
+    out.begin_map(Some(1))?;
+    out.key("type")?;
+    out.str(kind)?;
+    out.end_map()
+}
+
+/// Sends a condition with its members in byte order.
+#[cycle(sending)]
+pub fn send_cond<S: Serializer>(cond: &Cond, out: &mut S) -> Result<(), S::Error>
+    ensures sends { OnOk result (SendsValue (cond_data cond.now) (S.written out.old) (S.written out.new)) }
+    ensures whole { OnOk result (IsWhole (cond_data cond.now)) }
+{
+    match cond {
+        Cond::StepOk(step) => send_step("ok", *step, out),
+        Cond::StepError(step) => send_step("error", *step, out),
+        Cond::Not(part) => {
+            out.begin_map(Some(2))?;
+            out.key("cond")?;
+            send_cond(part.get(), out)?;
+            out.key("type")?;
+            out.str("not")?;
+            out.end_map()
+        }
+        Cond::All(parts) => {
+            out.begin_map(Some(2))?;
+            out.key("conds")?;
+            send_conds(parts.as_slice(), out)?;
+            out.key("type")?;
+            out.str("and")?;
+            out.end_map()
+        }
+        Cond::Any(parts) => {
+            out.begin_map(Some(2))?;
+            out.key("conds")?;
+            send_conds(parts.as_slice(), out)?;
+            out.key("type")?;
+            out.str("or")?;
+            out.end_map()
+        }
+        Cond::Autocommit => send_kind("is_autocommit", out),
+    }
+}
+
+#[cycle(sending)]
+fn send_conds<S: Serializer>(conds: &[Cond], out: &mut S) -> Result<(), S::Error>
+    ensures sends { OnOk result (SendsValue (array (items_of (map cond_data conds.now))) (S.written out.old) (S.written out.new)) }
+    ensures whole { OnOk result (IsWhole (array (items_of (map cond_data conds.now)))) }
+{
+    out.begin_seq(Some(conds.len()))?;
+    for cond in conds {
+        send_cond(cond, out)?;
+    }
+    out.end_seq()
+}
+
+impl JsonText for Cond {
+    ghost form = { cond_data };
+
+    fn send<S: Serializer>(&self, _alloc: Global, out: &mut S) -> Result<(), S::Error> {
+        send_cond(self, out)
+    }
+}
+
+// ---- batches
+
+impl JsonText for Step {
+    ghost form = { step_data };
+
+    fn send<S: Serializer>(&self, alloc: Global, out: &mut S) -> Result<(), S::Error> {
+        match &self.condition {
+            Some(condition) => {
+                out.begin_map(Some(2))?;
+                out.key("condition")?;
+                send_cond(condition, out)?;
+                out.key("stmt")?;
+                self.stmt.send(alloc, out)?;
+                out.end_map()
+            }
+            None => {
+                out.begin_map(Some(1))?;
+                out.key("stmt")?;
+                self.stmt.send(alloc, out)?;
+                out.end_map()
+            }
+        }
+    }
+}
+
+impl JsonText for Batch {
+    ghost form = { batch_data };
+
+    fn send<S: Serializer>(&self, alloc: Global, out: &mut S) -> Result<(), S::Error> {
+        out.begin_map(Some(1))?;
+        out.key("steps")?;
+        self.steps.send(alloc, out)?;
+        out.end_map()
+    }
+}
+
+// ---- results of batches
+
+fn send_result_entry<S: Serializer>(
+    alloc: Global,
+    outcome: &Outcome,
+    out: &mut S,
+) -> Result<(), S::Error>
+    ensures sends { OnOk result (SendsValue (result_entry outcome.now) (S.written out.old) (S.written out.new)) }
+    ensures whole { OnOk result (IsWhole (result_entry outcome.now)) }
+{
+    match outcome {
+        Outcome::Done(given) => given.send(alloc, out),
+        Outcome::Failed(_) => out.unit(),
+        Outcome::Skipped => out.unit(),
+    }
+}
+
+fn send_error_entry<S: Serializer>(
+    alloc: Global,
+    outcome: &Outcome,
+    out: &mut S,
+) -> Result<(), S::Error>
+    ensures sends { OnOk result (SendsValue (error_entry outcome.now) (S.written out.old) (S.written out.new)) }
+    ensures whole { OnOk result (IsWhole (error_entry outcome.now)) }
+{
+    match outcome {
+        Outcome::Failed(error) => error.send(alloc, out),
+        Outcome::Done(_) => out.unit(),
+        Outcome::Skipped => out.unit(),
+    }
+}
+
+fn send_results<S: Serializer>(
+    alloc: Global,
+    outcomes: &[Outcome],
+    out: &mut S,
+) -> Result<(), S::Error>
+    ensures sends { OnOk result (SendsValue (array (items_of (map result_entry outcomes.now))) (S.written out.old) (S.written out.new)) }
+    ensures whole { OnOk result (IsWhole (array (items_of (map result_entry outcomes.now)))) }
+{
+    out.begin_seq(Some(outcomes.len()))?;
+    for outcome in outcomes {
+        send_result_entry(alloc, outcome, out)?;
+    }
+    out.end_seq()
+}
+
+fn send_errors<S: Serializer>(
+    alloc: Global,
+    outcomes: &[Outcome],
+    out: &mut S,
+) -> Result<(), S::Error>
+    ensures sends { OnOk result (SendsValue (array (items_of (map error_entry outcomes.now))) (S.written out.old) (S.written out.new)) }
+    ensures whole { OnOk result (IsWhole (array (items_of (map error_entry outcomes.now)))) }
+{
+    out.begin_seq(Some(outcomes.len()))?;
+    for outcome in outcomes {
+        send_error_entry(alloc, outcome, out)?;
+    }
+    out.end_seq()
+}
+
+fn send_outcomes<S: Serializer>(
+    alloc: Global,
+    outcomes: &[Outcome],
+    out: &mut S,
+) -> Result<(), S::Error>
+    ensures sends { OnOk result (SendsValue (batch_result_object (array (items_of (map error_entry outcomes.now))) (array (items_of (map result_entry outcomes.now)))) (S.written out.old) (S.written out.new)) }
+    ensures whole { OnOk result (IsWhole (batch_result_object (array (items_of (map error_entry outcomes.now))) (array (items_of (map result_entry outcomes.now))))) }
+{
+    out.begin_map(Some(2))?;
+    out.key("step_errors")?;
+    send_errors(alloc, outcomes, out)?;
+    out.key("step_results")?;
+    send_results(alloc, outcomes, out)?;
+    out.end_map()
+}
+
+impl JsonText for BatchResult {
+    ghost form = { batch_result_data };
+
+    fn send<S: Serializer>(&self, alloc: Global, out: &mut S) -> Result<(), S::Error> {
+        send_outcomes(alloc, self.outcomes.as_slice(), out)
+    }
+}

@@ -1,0 +1,20 @@
+use Rattle.std.proofs.Common.{Some, subst, codes}
+use Rattle.std.proofs.lemmas.Result.{on_ok_weaker}
+use Rattle.serde.specs.Event.{Logs, map_begins}
+use Rattle.serde_json.specs.Data.{array}
+use Rattle.hrana_value.specs.Written.{values_data}
+use Rattle.hrana_value.specs.Sent.{SendsFront}
+use Rattle.hrana_stmt.specs.Written.{is_empty, member_unless, named_args_data}
+use Rattle.hrana_stmt.proofs.statement_text.StmtJsonText.send.Goals as goal
+
+pub returns-clause-sends : goal.returns-clause-sends
+returns-clause-sends g c =
+    let w = g.S.Serializer.written in
+    let begun = subst (λ n. Logs (w c.args.out.now) (w c.begin_map.new.self) (map_begins (Some n))) c.member_count.ensures c.in_ok-begin_map.ensures in
+    let args = subst (λ vs. SendsFront (member_unless (is_empty vs) (codes "args") (array (values_data vs))) (w c.begin_map.new.self) (w c.send_list_unless_empty.new.out)) c.as_slice.ensures c.in_ok-send_list_unless_empty.ensures.sends in
+    let named = subst (λ ns. SendsFront (member_unless (is_empty ns) (codes "named_args") (named_args_data ns)) (w c.send_list_unless_empty.new.out) (w c.send_list_unless_empty-2.new.out)) c.as_slice-2.ensures c.in_ok-send_list_unless_empty-2.ensures.sends in
+    on_ok_weaker c.end_map.result (λ e. (
+      w c.begin_map.new.self,
+      begun,
+      args _ _ (named _ _ (c.in_ok-send_sql.ensures.sends _ _ (c.in_ok-send_want_rows.ensures _ _ e))),
+    )) c.end_map.ensures
