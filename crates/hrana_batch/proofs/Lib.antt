@@ -7,7 +7,8 @@
 --   batch_to_json, cond_to_json: written, reads_back    batch_json/, by BatchWritten; condition_json/+writing, by CondWritten
 --   batch_result_of_json: Reads                   result_json/, by OutcomeReadings, ShapeLemmas
 --   no_tree_is_two_batch_results, batch_results_are_read    result_json/, by OutcomeLaws
---   batch_result_to_json: written, reads_back     result_json/, by OutcomeLaws
+--   batch_result_to_json: written, reads_back     result_json/, by Depths
+--   send of conditions, batches and their results    sending/, by CondWritten, BatchWritten, OutcomeLaws
 --   holds                                         holding/+holds, by CondLemmas, SizeLemmas
 --   turns_are_meant                               running/turns_are_meant, by MeansLemmas
 pub mod BatchReadings
@@ -17,6 +18,7 @@ pub mod CondLemmas
 pub mod CondReadings
 pub mod CondWritten
 pub mod DepthLemmas
+pub mod Depths
 pub mod FitsLemmas
 pub mod MeansLemmas
 pub mod OutcomeLaws
@@ -24,3 +26,4 @@ pub mod OutcomeReadings
 pub mod ShapeLemmas
 pub mod SizeLemmas
 pub mod WithinLemmas
+pub mod WrittenItems

@@ -18,7 +18,8 @@ use Rattle.hrana_batch.specs.declared.outcomes.Outcome.{Outcome}
 use Rattle.hrana_batch.specs.declared.outcomes.Outcome.TheVariants.{Skipped, Done, Failed}
 use Rattle.hrana_batch.specs.declared.outcomes.BatchResult.{BatchResult}
 use Rattle.hrana_batch.specs.Tree.{result_of, error_in, ResultEntryTree, ErrorEntryTree, BothGiven, PartsClash, BatchResultTree, NoTreeIsTwoBatchResults, BatchResultsAreRead}
-use Rattle.hrana_batch.specs.Written.{batch_result_object}
+use Rattle.hrana_stmt.specs.Written.{result_data, error_data}
+use Rattle.hrana_batch.specs.Written.{result_entry, error_entry}
 
 -- ---- a tree is one of at most one result of a batch
 
@@ -115,11 +116,8 @@ result_is_given x d tree absent = (subst (StmtResultTree x) absent tree).cols
 error_is_given : (x : WireError) (d : Data) → WireErrorTree x d → IsGiven d
 error_is_given x d tree absent = let none : as_str (part_at (codes "message") null) ≡ Some x.message = (subst (WireErrorTree x) absent tree).message in cc none
 
-pub result_entry_back : (o : Outcome) (x : StmtResult) (d : Data) → o ≡ Done x → StmtResultTree x d → ResultEntryTree o d
-result_entry_back o x d is tree = subst (λ p. ResultEntryTree p d) (sym is) (result_is_given x d tree, tree)
+pub result_entry_back : (o : Outcome) (x : StmtResult) → o ≡ Done x → StmtResultTree x (result_data x) → ResultEntryTree o (result_entry o)
+result_entry_back o x is tree = subst (λ p. ResultEntryTree p (result_entry p)) (sym is) (result_is_given x (result_data x) tree, tree)
 
-pub error_entry_back : (o : Outcome) (x : WireError) (d : Data) → o ≡ Failed x → WireErrorTree x d → ErrorEntryTree o d
-error_entry_back o x d is tree = subst (λ p. ErrorEntryTree p d) (sym is) (error_is_given x d tree, tree)
-
-pub batch_result_back : (r : BatchResult) (d errors results : Data) → d ≡ batch_result_object errors results → ArrayTree ErrorEntryTree r.outcomes errors → ArrayTree ResultEntryTree r.outcomes results → BatchResultTree r d
-batch_result_back r d errors results is e w = subst (BatchResultTree r) (sym is) (record { results = w; errors = e })
+pub error_entry_back : (o : Outcome) (x : WireError) → o ≡ Failed x → WireErrorTree x (error_data x) → ErrorEntryTree o (error_entry o)
+error_entry_back o x is tree = subst (λ p. ErrorEntryTree p (error_entry p)) (sym is) (error_is_given x (error_data x) tree, tree)

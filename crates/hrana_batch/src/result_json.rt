@@ -1,17 +1,17 @@
 // Results of batches from JSON trees and back.
-ghost use Rattle.std.specs.Prelude.{◌≡◌, length, map, IfOk};
+ghost use Rattle.std.specs.Prelude.{◌≡◌, length, IfOk};
 ghost use Rattle.serde_json.specs.Data.{array};
-ghost use Rattle.serde_json.specs.View.{view, items_view, items_of};
+ghost use Rattle.serde_json.specs.View.{view, items_view};
 ghost use Rattle.hrana_value.specs.Declines.{Reads};
 ghost use Rattle.hrana_value.specs.Trees.{ArrayTree};
 ghost use Rattle.hrana_batch.specs.Tree.{ResultEntryTree, ErrorEntryTree, BatchResultTree, BatchResultStands, NoTreeIsTwoBatchResults, BatchResultsAreRead};
 ghost use Rattle.hrana_batch.specs.Parts.{OutcomeTree, EntriesStand, OutcomesTree, OutcomesStand, OutcomePartsTree, OutcomePartsStand};
-ghost use Rattle.hrana_batch.specs.Written.{result_entry, error_entry, batch_result_object, batch_result_data};
+ghost use Rattle.hrana_batch.specs.Written.{batch_result_data};
 
 use crate::{BatchResult, Outcome, Outcomes};
-use hrana_stmt::{error_of_json, error_to_json, result_of_json, result_to_json};
-use hrana_value::{Decline, NoMemory, ReadFail, member_or_null, with_item};
-use serde_json::{Map, Value as Json, put};
+use hrana_stmt::{error_of_json, result_of_json};
+use hrana_value::{Decline, NoMemory, ReadFail, json_of, member_or_null, with_item};
+use serde_json::Value as Json;
 use std::alloc::Global;
 
 // The outcome of a step from its entries in `step_results` and `step_errors`.
@@ -76,67 +76,12 @@ pub fn batch_result_of_json(alloc: Global, json: &Json) -> Result<BatchResult, R
     }
 }
 
-fn result_entry_to_json(alloc: Global, outcome: &Outcome) -> Result<Json, NoMemory>
-    ensures written { IfOk result (λ json. view json ≡ result_entry outcome.now) }
-    ensures reads_back { IfOk result (λ json. ResultEntryTree outcome.now (view json)) }
-{
-    match outcome {
-        Outcome::Done(given) => result_to_json(alloc, given),
-        Outcome::Failed(_) => Ok(Json::Null),
-        Outcome::Skipped => Ok(Json::Null),
-    }
-}
-
-fn error_entry_to_json(alloc: Global, outcome: &Outcome) -> Result<Json, NoMemory>
-    ensures written { IfOk result (λ json. view json ≡ error_entry outcome.now) }
-    ensures reads_back { IfOk result (λ json. ErrorEntryTree outcome.now (view json)) }
-{
-    match outcome {
-        Outcome::Failed(error) => error_to_json(alloc, error),
-        Outcome::Done(_) => Ok(Json::Null),
-        Outcome::Skipped => Ok(Json::Null),
-    }
-}
-
-fn results_to_json(alloc: Global, outcomes: &[Outcome]) -> Result<Json, NoMemory>
-    ensures written { IfOk result (λ json. view json ≡ array (items_of (map result_entry outcomes.now))) }
-    ensures reads_back { IfOk result (λ json. ArrayTree ResultEntryTree outcomes.now (view json)) }
-{
-    let mut items = Vec::new(alloc);
-    for outcome in outcomes {
-        items.push(result_entry_to_json(alloc, outcome)?)?;
-    }
-    Ok(Json::Array(items))
-}
-
-fn errors_to_json(alloc: Global, outcomes: &[Outcome]) -> Result<Json, NoMemory>
-    ensures written { IfOk result (λ json. view json ≡ array (items_of (map error_entry outcomes.now))) }
-    ensures reads_back { IfOk result (λ json. ArrayTree ErrorEntryTree outcomes.now (view json)) }
-{
-    let mut items = Vec::new(alloc);
-    for outcome in outcomes {
-        items.push(error_entry_to_json(alloc, outcome)?)?;
-    }
-    Ok(Json::Array(items))
-}
-
-fn batch_result_members(alloc: Global, errors: Json, results: Json) -> Result<Json, NoMemory>
-    ensures { IfOk result (λ json. view json ≡ batch_result_object (view errors) (view results)) }
-{
-    let mut members = Map::new(alloc);
-    put(&mut members, alloc, "step_errors", errors)?;
-    put(&mut members, alloc, "step_results", results)?;
-    Ok(Json::Object(members))
-}
-
 /// Writes the result of a batch with its members in byte order. What a step lacks is null.
 pub fn batch_result_to_json(alloc: Global, given: &BatchResult) -> Result<Json, NoMemory>
     ensures written { IfOk result (λ json. view json ≡ batch_result_data given.now) }
     ensures reads_back { IfOk result (λ json. BatchResultTree given.now (view json)) }
 {
-    let errors = errors_to_json(alloc, given.outcomes.as_slice())?;
-    let results = results_to_json(alloc, given.outcomes.as_slice())?;
-    batch_result_members(alloc, errors, results)
+    json_of(alloc, given)
 }
 
 /// A JSON tree is the form of at most one result of a batch.

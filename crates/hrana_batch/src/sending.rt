@@ -1,9 +1,12 @@
 // Conditions, batches and their results as JSON text.
-ghost use Rattle.std.specs.Prelude.{OnOk, map};
+ghost use Rattle.std.specs.Prelude.{OnOk, ◌<◌, ◌^◌, map};
 ghost use Rattle.serde_json.specs.Data.{array, object};
 ghost use Rattle.serde_json.specs.Events.{SendsValue};
 ghost use Rattle.serde_json.specs.View.{items_of};
+ghost use Rattle.hrana_value.specs.Trees.{ItemsTree};
 ghost use Rattle.hrana_value.specs.Whole.{IsWhole};
+ghost use Rattle.hrana_batch.specs.Parts.{OutcomesTree};
+ghost use Rattle.hrana_batch.specs.Tree.{CondTree, StepTree, BatchTree, ResultEntryTree, ErrorEntryTree, BatchResultTree};
 ghost use Rattle.hrana_batch.specs.Written.{cond_data, type_member, step_cond, step_data, batch_data, result_entry, error_entry, batch_result_object, batch_result_data};
 
 use crate::{Batch, BatchResult, Cond, Outcome, Step};
@@ -16,6 +19,7 @@ use std::alloc::Global;
 fn send_step<S: Serializer>(kind: &str, step: u32, out: &mut S) -> Result<(), S::Error>
     ensures sends { OnOk result (SendsValue (step_cond kind.now step) (S.written out.old) (S.written out.new)) }
     ensures whole { OnOk result (IsWhole (step_cond kind.now step)) }
+    ensures fits { step < 2 ^ 32 }
 {
     out.begin_map(Some(2))?;
     out.key("step")?;
@@ -40,6 +44,7 @@ fn send_kind<S: Serializer>(kind: &str, out: &mut S) -> Result<(), S::Error>
 pub fn send_cond<S: Serializer>(cond: &Cond, out: &mut S) -> Result<(), S::Error>
     ensures sends { OnOk result (SendsValue (cond_data cond.now) (S.written out.old) (S.written out.new)) }
     ensures whole { OnOk result (IsWhole (cond_data cond.now)) }
+    ensures back { OnOk result (CondTree cond.now (cond_data cond.now)) }
 {
     match cond {
         Cond::StepOk(step) => send_step("ok", *step, out),
@@ -76,6 +81,7 @@ pub fn send_cond<S: Serializer>(cond: &Cond, out: &mut S) -> Result<(), S::Error
 fn send_conds<S: Serializer>(conds: &[Cond], out: &mut S) -> Result<(), S::Error>
     ensures sends { OnOk result (SendsValue (array (items_of (map cond_data conds.now))) (S.written out.old) (S.written out.new)) }
     ensures whole { OnOk result (IsWhole (array (items_of (map cond_data conds.now)))) }
+    ensures back { OnOk result (ItemsTree CondTree conds.now (items_of (map cond_data conds.now))) }
 {
     out.begin_seq(Some(conds.len()))?;
     for cond in conds {
@@ -87,6 +93,8 @@ fn send_conds<S: Serializer>(conds: &[Cond], out: &mut S) -> Result<(), S::Error
 impl JsonText for Cond {
     ghost form = { cond_data };
 
+    ghost tree = { CondTree };
+
     fn send<S: Serializer>(&self, _alloc: Global, out: &mut S) -> Result<(), S::Error> {
         send_cond(self, out)
     }
@@ -96,6 +104,8 @@ impl JsonText for Cond {
 
 impl JsonText for Step {
     ghost form = { step_data };
+
+    ghost tree = { StepTree };
 
     fn send<S: Serializer>(&self, alloc: Global, out: &mut S) -> Result<(), S::Error> {
         match &self.condition {
@@ -120,6 +130,8 @@ impl JsonText for Step {
 impl JsonText for Batch {
     ghost form = { batch_data };
 
+    ghost tree = { BatchTree };
+
     fn send<S: Serializer>(&self, alloc: Global, out: &mut S) -> Result<(), S::Error> {
         out.begin_map(Some(1))?;
         out.key("steps")?;
@@ -137,6 +149,7 @@ fn send_result_entry<S: Serializer>(
 ) -> Result<(), S::Error>
     ensures sends { OnOk result (SendsValue (result_entry outcome.now) (S.written out.old) (S.written out.new)) }
     ensures whole { OnOk result (IsWhole (result_entry outcome.now)) }
+    ensures back { OnOk result (ResultEntryTree outcome.now (result_entry outcome.now)) }
 {
     match outcome {
         Outcome::Done(given) => given.send(alloc, out),
@@ -152,6 +165,7 @@ fn send_error_entry<S: Serializer>(
 ) -> Result<(), S::Error>
     ensures sends { OnOk result (SendsValue (error_entry outcome.now) (S.written out.old) (S.written out.new)) }
     ensures whole { OnOk result (IsWhole (error_entry outcome.now)) }
+    ensures back { OnOk result (ErrorEntryTree outcome.now (error_entry outcome.now)) }
 {
     match outcome {
         Outcome::Failed(error) => error.send(alloc, out),
@@ -167,6 +181,7 @@ fn send_results<S: Serializer>(
 ) -> Result<(), S::Error>
     ensures sends { OnOk result (SendsValue (array (items_of (map result_entry outcomes.now))) (S.written out.old) (S.written out.new)) }
     ensures whole { OnOk result (IsWhole (array (items_of (map result_entry outcomes.now)))) }
+    ensures back { OnOk result (ItemsTree ResultEntryTree outcomes.now (items_of (map result_entry outcomes.now))) }
 {
     out.begin_seq(Some(outcomes.len()))?;
     for outcome in outcomes {
@@ -182,6 +197,7 @@ fn send_errors<S: Serializer>(
 ) -> Result<(), S::Error>
     ensures sends { OnOk result (SendsValue (array (items_of (map error_entry outcomes.now))) (S.written out.old) (S.written out.new)) }
     ensures whole { OnOk result (IsWhole (array (items_of (map error_entry outcomes.now)))) }
+    ensures back { OnOk result (ItemsTree ErrorEntryTree outcomes.now (items_of (map error_entry outcomes.now))) }
 {
     out.begin_seq(Some(outcomes.len()))?;
     for outcome in outcomes {
@@ -197,6 +213,7 @@ fn send_outcomes<S: Serializer>(
 ) -> Result<(), S::Error>
     ensures sends { OnOk result (SendsValue (batch_result_object (array (items_of (map error_entry outcomes.now))) (array (items_of (map result_entry outcomes.now)))) (S.written out.old) (S.written out.new)) }
     ensures whole { OnOk result (IsWhole (batch_result_object (array (items_of (map error_entry outcomes.now))) (array (items_of (map result_entry outcomes.now))))) }
+    ensures back { OnOk result (OutcomesTree outcomes.now (items_of (map result_entry outcomes.now)) (items_of (map error_entry outcomes.now))) }
 {
     out.begin_map(Some(2))?;
     out.key("step_errors")?;
@@ -208,6 +225,8 @@ fn send_outcomes<S: Serializer>(
 
 impl JsonText for BatchResult {
     ghost form = { batch_result_data };
+
+    ghost tree = { BatchResultTree };
 
     fn send<S: Serializer>(&self, alloc: Global, out: &mut S) -> Result<(), S::Error> {
         send_outcomes(alloc, self.outcomes.as_slice(), out)

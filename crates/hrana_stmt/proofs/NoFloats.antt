@@ -1,19 +1,12 @@
 -- What is written has no float, so that its text is the compact text of its tree.
-use Rattle.std.proofs.Common.{◌≡◌, List, Option, None, Some, Bool, true, false, ℤ, ℕ, refl}
-use Rattle.std.specs.Prelude.{pos, negsuc}
-use Rattle.serde_json.specs.Data.{Data, Members, number}
-use Rattle.serde_json.specs.Find.{of_integer}
-use Rattle.serde_json.specs.Written.{has_float, members_have_float}
+use Rattle.std.proofs.Common.{◌≡◌, List, Option, None, Some, false, ℤ, ℕ, refl}
+use Rattle.serde_json.specs.Written.{has_float}
 use Rattle.hrana_value.specs.declared.value.Value.{Value}
-use Rattle.hrana_value.proofs.NoFloats.{neither, items_have_float-map, has_float-values_data, has_float-value_data}
+use Rattle.hrana_value.proofs.NoFloats.{neither, items_have_float-map, has_float-values_data}
 use Rattle.hrana_stmt.specs.declared.results.Col.{Col}
 use Rattle.hrana_stmt.specs.declared.results.StmtResult.{StmtResult}
 use Rattle.hrana_stmt.specs.declared.errors.WireError.{WireError}
-use Rattle.hrana_stmt.specs.declared.statements.SqlRef.{SqlRef}
-use Rattle.hrana_stmt.specs.declared.statements.SqlRef.TheVariants.{Text, Id}
-use Rattle.hrana_stmt.specs.declared.statements.NamedArg.{NamedArg}
-use Rattle.hrana_stmt.specs.declared.statements.Stmt.{Stmt}
-use Rattle.hrana_stmt.specs.Written.{optional_text, rowid_data, col_data, cols_data, row_data, rows_data, result_data, error_data, named_arg_data, named_args_data, member_unless, sql_member, is_empty, stmt_data}
+use Rattle.hrana_stmt.specs.Written.{optional_text, rowid_data, col_data, cols_data, row_data, rows_data, result_data, error_data}
 
 pub has_float-optional_text : (o : Option (List ℕ)) → has_float (optional_text o) ≡ false
 has_float-optional_text None = refl
@@ -41,28 +34,3 @@ has_float-result_data r =
 
 pub has_float-error_data : (e : WireError) → has_float (error_data e) ≡ false
 has_float-error_data e = neither _ _ (has_float-optional_text e.code) refl
-
--- ---- statements
-
-has_float-named_arg_data : (a : NamedArg) → has_float (named_arg_data a) ≡ false
-has_float-named_arg_data a = neither _ _ refl (neither _ _ (has_float-value_data a.value) refl)
-
-has_float-named_args_data : (args : List NamedArg) → has_float (named_args_data args) ≡ false
-has_float-named_args_data args = items_have_float-map named_arg_data has_float-named_arg_data args
-
-has_float-unless : (b : Bool) (name : List ℕ) (d : Data) (ms : Members) → has_float d ≡ false → members_have_float ms ≡ false → members_have_float (member_unless b name d ms) ≡ false
-has_float-unless true name d ms p q = q
-has_float-unless false name d ms p q = neither _ _ p q
-
-has_float-integer : (z : ℤ) → has_float (number (of_integer z)) ≡ false
-has_float-integer (pos n) = refl
-has_float-integer (negsuc n) = refl
-
-pub has_float-sql_member : (sql : SqlRef) (ms : Members) → members_have_float ms ≡ false → members_have_float (sql_member sql ms) ≡ false
-has_float-sql_member (Text s) ms q = neither _ _ refl q
-has_float-sql_member (Id z) ms q = neither _ _ (has_float-integer z) q
-
-pub has_float-stmt_data : (s : Stmt) → has_float (stmt_data s) ≡ false
-has_float-stmt_data s =
-    has_float-unless (is_empty s.args) _ _ _ (has_float-values_data s.args) (has_float-unless (is_empty s.named) _ _ _ (has_float-named_args_data s.named)
-    (has_float-sql_member s.sql _ (has_float-unless s.want_rows _ _ _ refl refl)))

@@ -5,37 +5,14 @@ use Rattle.serde_json.specs.Data.{Data, null, boolean, number, string, array, ob
 use Rattle.serde_json.specs.Find.{get_member, of_integer, as_str}
 use Rattle.hrana_value.specs.Members.{part_at, whole_of}
 use Rattle.hrana_value.specs.Tree.{ValueTree}
+use Rattle.hrana_value.specs.Written.{values_data}
 use Rattle.hrana_value.specs.Trees.{ArrayTree, OptionalArrayTree}
 use Rattle.hrana_stmt.specs.declared.statements.SqlRef.{SqlRef}
 use Rattle.hrana_stmt.specs.declared.statements.SqlRef.TheVariants.{Text, Id}
 use Rattle.hrana_stmt.specs.declared.statements.Stmt.{Stmt}
 use Rattle.hrana_stmt.specs.Tree.{NamedArgTree, StmtTree, SqlTree, WantsRowsTree}
-use Rattle.hrana_stmt.specs.Written.{is_empty, member_unless, sql_member, stmt_object}
-use Rattle.hrana_stmt.specs.Puts.{put_unless, put_sql, put_parts, SqlIdFits}
-
--- ---- the order of the members
-
-in_order : (a n w : Bool) (sql : SqlRef) (args named : Data) → put_unless w (codes "want_rows") (boolean false) (put_sql sql (put_unless n (codes "named_args") named (put_unless a (codes "args") args no_members)))
-    ≡ member_unless a (codes "args") args (member_unless n (codes "named_args") named (sql_member sql (member_unless w (codes "want_rows") (boolean false) no_members)))
-in_order true true true (Text s) args named = refl
-in_order true true true (Id z) args named = refl
-in_order true true false (Text s) args named = refl
-in_order true true false (Id z) args named = refl
-in_order true false true (Text s) args named = refl
-in_order true false true (Id z) args named = refl
-in_order true false false (Text s) args named = refl
-in_order true false false (Id z) args named = refl
-in_order false true true (Text s) args named = refl
-in_order false true true (Id z) args named = refl
-in_order false true false (Text s) args named = refl
-in_order false true false (Id z) args named = refl
-in_order false false true (Text s) args named = refl
-in_order false false true (Id z) args named = refl
-in_order false false false (Text s) args named = refl
-in_order false false false (Id z) args named = refl
-
-pub put_parts-stmt : (s : Stmt) (args named : Data) → object (put_parts s args named no_members) ≡ stmt_object s args named
-put_parts-stmt s args named = ap object (in_order (is_empty s.args) (is_empty s.named) s.want_rows s.sql args named)
+use Rattle.hrana_stmt.specs.Written.{is_empty, member_unless, sql_member, named_args_data, stmt_data}
+use Rattle.hrana_stmt.specs.Puts.{SqlIdFits}
 
 -- ---- what stands under each name
 
@@ -130,15 +107,12 @@ want_back : (w : Bool) (part : Data) → part ≡ null_if w (boolean false) → 
 want_back true part e = subst (WantsRowsTree true) (sym e) refl
 want_back false part e = subst (WantsRowsTree false) (sym e) refl
 
-object_back : (s : Stmt) (args named : Data) → ArrayTree ValueTree s.args args → ArrayTree NamedArgTree s.named named → SqlIdFits s.sql → StmtTree s (stmt_object s args named)
-object_back s args named p q fits =
-    let a = is_empty s.args in let n = is_empty s.named in
+pub stmt_back : (s : Stmt) → ArrayTree ValueTree s.args (array (values_data s.args)) → ArrayTree NamedArgTree s.named (named_args_data s.named) → SqlIdFits s.sql → StmtTree s (stmt_data s)
+stmt_back s p q fits =
+    let a = is_empty s.args in let n = is_empty s.named in let args = array (values_data s.args) in let named = named_args_data s.named in
     record {
       sql = sql_back s.sql a args n named s.want_rows fits;
       args = list_back ValueTree s.args args _ (args_part a args n named s.sql s.want_rows) p;
       named = list_back NamedArgTree s.named named _ (named_part a args n named s.sql s.want_rows) q;
       want_rows = want_back s.want_rows _ (want_part a args n named s.sql s.want_rows);
     }
-
-pub stmt_back : (s : Stmt) (d args named : Data) → d ≡ stmt_object s args named → ArrayTree ValueTree s.args args → ArrayTree NamedArgTree s.named named → SqlIdFits s.sql → StmtTree s d
-stmt_back s d args named is p q fits = subst (StmtTree s) (sym is) (object_back s args named p q fits)

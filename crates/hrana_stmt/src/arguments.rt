@@ -1,7 +1,6 @@
 // Arguments from JSON trees.
-ghost use Rattle.hrana_value.specs.Trees.{ArrayTree, OptionalArrayTree, OptionalArrayStands};
-ghost use Rattle.hrana_stmt.specs.Written.{named_arg_data, named_args_data, named_arg_object};
-ghost use Rattle.std.specs.Prelude.{◌≡◌, IfOk, ◌+◌, ◌≤◌, ◌<◌};
+ghost use Rattle.hrana_value.specs.Trees.{OptionalArrayTree, OptionalArrayStands};
+ghost use Rattle.std.specs.Prelude.{◌≡◌, ◌+◌, ◌≤◌, ◌<◌};
 ghost use Rattle.serde_json.specs.View.{view};
 ghost use Rattle.hrana_value.specs.Declines.{Reads, Only, EitherStands};
 ghost use Rattle.hrana_value.specs.Members.{TextStands};
@@ -11,10 +10,10 @@ ghost use Rattle.hrana_stmt.specs.Tree.{NamedArgTree, NamedArgStands, count_of, 
 
 use crate::{MAX_ARGUMENTS, NamedArg, NamedArgs};
 use hrana_value::{
-    Decline, JsonForm, NoMemory, ReadFail, Values, both_readings, members, optional_list_of_json,
-    text_of_json, value_of_json, value_to_json,
+    Decline, JsonForm, ReadFail, Values, both_readings, members, optional_list_of_json,
+    text_of_json, value_of_json,
 };
-use serde_json::{Map, Value as Json, json, put};
+use serde_json::Value as Json;
 use std::alloc::Global;
 
 fn named_arg_of_json(alloc: Global, json: &Json) -> Result<NamedArg, ReadFail>
@@ -74,34 +73,4 @@ pub fn arguments_of_json(
     let read = lists_of_json(alloc, args, named);
     let (read, ()) = both_readings(read, argument_limit(args, named))?;
     Ok(read)
-}
-
-fn named_arg_members(alloc: Global, name: &str, value: Json) -> Result<Json, NoMemory>
-    ensures { IfOk result (λ json. view json ≡ named_arg_object name.now (view value)) }
-{
-    let mut members = Map::new(alloc);
-    let name = json!(in alloc; name)?;
-    put(&mut members, alloc, "name", name)?;
-    put(&mut members, alloc, "value", value)?;
-    Ok(Json::Object(members))
-}
-
-fn named_arg_to_json(alloc: Global, arg: &NamedArg) -> Result<Json, NoMemory>
-    ensures written { IfOk result (λ json. view json ≡ named_arg_data arg.now) }
-    ensures reads_back { IfOk result (λ json. NamedArgTree arg.now (view json)) }
-{
-    let value = value_to_json(alloc, &arg.value)?;
-    named_arg_members(alloc, arg.name.as_str(), value)
-}
-
-/// Writes named arguments as a JSON array.
-pub fn named_args_to_json(alloc: Global, args: &[NamedArg]) -> Result<Json, NoMemory>
-    ensures written { IfOk result (λ json. view json ≡ named_args_data args.now) }
-    ensures reads_back { IfOk result (λ json. ArrayTree NamedArgTree args.now (view json)) }
-{
-    let mut items = Vec::new(alloc);
-    for arg in args {
-        items.push(named_arg_to_json(alloc, arg)?)?;
-    }
-    Ok(Json::Array(items))
 }

@@ -3,11 +3,11 @@ ghost use Rattle.serde_json.specs.View.{view};
 ghost use Rattle.hrana_value.specs.Declines.{Reads};
 ghost use Rattle.hrana_stmt.specs.Tree.{WireErrorTree, WireErrorStands, NoTreeIsTwoErrors, ErrorsAreRead};
 ghost use Rattle.std.specs.Prelude.{◌≡◌, IfOk};
-ghost use Rattle.hrana_stmt.specs.Written.{optional_text, error_data};
+ghost use Rattle.hrana_stmt.specs.Written.{error_data};
 
 use crate::WireError;
-use hrana_value::{NoMemory, ReadFail, Txt, both_readings, members, option_of_json, text_of_json};
-use serde_json::{Map, Value as Json, json, put};
+use hrana_value::{NoMemory, ReadFail, both_readings, json_of, members, option_of_json, text_of_json};
+use serde_json::Value as Json;
 use std::alloc::Global;
 
 /// Reads an error: `message`, and an optional `code`.
@@ -19,33 +19,12 @@ pub fn error_of_json(alloc: Global, json: &Json) -> Result<WireError, ReadFail>
     Ok(WireError { message, code })
 }
 
-/// Writes a string, and null for none.
-pub fn optional_text_to_json(alloc: Global, text: &Option<Txt>) -> Result<Json, NoMemory>
-    ensures { IfOk result (λ json. view json ≡ optional_text text.now) }
-{
-    match text {
-        Some(text) => Ok(json!(in alloc; text.as_str())?),
-        None => Ok(Json::Null),
-    }
-}
-
-fn error_members(alloc: Global, error: &WireError) -> Result<Json, NoMemory>
-    ensures { IfOk result (λ json. view json ≡ error_data error.now) }
-{
-    let code = optional_text_to_json(alloc, &error.code)?;
-    let message = json!(in alloc; error.message.as_str())?;
-    let mut members = Map::new(alloc);
-    put(&mut members, alloc, "code", code)?;
-    put(&mut members, alloc, "message", message)?;
-    Ok(Json::Object(members))
-}
-
 /// Writes an error with all its members, in byte order. A code that is missing is null.
 pub fn error_to_json(alloc: Global, error: &WireError) -> Result<Json, NoMemory>
     ensures written { IfOk result (λ json. view json ≡ error_data error.now) }
     ensures reads_back { IfOk result (λ json. WireErrorTree error.now (view json)) }
 {
-    error_members(alloc, error)
+    json_of(alloc, error)
 }
 
 /// A JSON tree is the form of at most one error.

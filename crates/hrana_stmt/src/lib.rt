@@ -18,20 +18,15 @@ pub use codes::{
     CODE_MESSAGES, CODE_NAMES, Code, code_message, code_messages_differ, code_name,
     code_names_differ, codes_differ,
 };
-pub use error_json::{
-    error_of_json, error_to_json, errors_are_read, no_tree_is_two_errors, optional_text_to_json,
-};
+pub use error_json::{error_of_json, error_to_json, errors_are_read, no_tree_is_two_errors};
 pub use errors::{WireError, wire_error};
 pub use limits::{MAX_ARGUMENTS, MAX_SQL_BYTES, limits_are};
-pub use result_json::{
-    cols_to_json, no_tree_is_two_results, optional_int64_to_json, result_of_json, result_to_json,
-    results_are_read, row_to_json,
-};
+pub use result_json::{no_tree_is_two_results, result_of_json, result_to_json, results_are_read};
 pub use results::{Col, Cols, Rows, StmtResult};
 pub use sending::{send_optional_int64, send_optional_text};
 pub use sql::sql_of_json;
 pub use statement_json::{
-    fitting_statements_are_read, no_tree_is_two_statements, object_of_json, put_sql, stmt_of_json,
+    fitting_statements_are_read, no_tree_is_two_statements, object_of_json, stmt_of_json,
     stmt_to_json,
 };
 pub use statement_text::send_sql;

@@ -1,8 +1,11 @@
 // Statements, results and errors as JSON text.
-ghost use Rattle.std.specs.Prelude.{OnOk};
+ghost use Rattle.std.specs.Prelude.{OnOk, Some};
 ghost use Rattle.std.specs.Fmt.{signed_decimal};
 ghost use Rattle.serde_json.specs.Data.{string};
 ghost use Rattle.serde_json.specs.Events.{SendsValue};
+ghost use Rattle.hrana_value.specs.Tree.{Int64TextTree};
+ghost use Rattle.hrana_value.specs.Trees.{OptionalTree};
+ghost use Rattle.hrana_stmt.specs.Tree.{ColTree, NamedArgTree, WireErrorTree, StmtResultTree};
 ghost use Rattle.hrana_stmt.specs.Written.{optional_text, col_data, rowid_data, result_data, error_data, named_arg_data};
 
 use crate::{Col, NamedArg, StmtResult, WireError};
@@ -22,7 +25,8 @@ pub fn send_optional_text<S: Serializer>(text: &Option<Txt>, out: &mut S) -> Res
 }
 
 fn send_digits<S: Serializer>(number: i64, out: &mut S) -> Result<(), S::Error>
-    ensures { OnOk result (SendsValue (string (signed_decimal number)) (S.written out.old) (S.written out.new)) }
+    ensures sends { OnOk result (SendsValue (string (signed_decimal number)) (S.written out.old) (S.written out.new)) }
+    ensures back { OptionalTree Int64TextTree (Some number) (rowid_data (Some number)) }
 {
     let mut buffer = Buffer::new();
     out.str(buffer.format(number))
@@ -30,7 +34,8 @@ fn send_digits<S: Serializer>(number: i64, out: &mut S) -> Result<(), S::Error>
 
 /// Sends an integer as a string, and null for none.
 pub fn send_optional_int64<S: Serializer>(number: Option<i64>, out: &mut S) -> Result<(), S::Error>
-    ensures { OnOk result (SendsValue (rowid_data number) (S.written out.old) (S.written out.new)) }
+    ensures sends { OnOk result (SendsValue (rowid_data number) (S.written out.old) (S.written out.new)) }
+    ensures back { OptionalTree Int64TextTree number (rowid_data number) }
 {
     match number {
         Some(number) => send_digits(number, out),
@@ -40,6 +45,8 @@ pub fn send_optional_int64<S: Serializer>(number: Option<i64>, out: &mut S) -> R
 
 impl JsonText for Col {
     ghost form = { col_data };
+
+    ghost tree = { ColTree };
 
     fn send<S: Serializer>(&self, _alloc: Global, out: &mut S) -> Result<(), S::Error> {
         out.begin_map(Some(1))?;
@@ -51,6 +58,8 @@ impl JsonText for Col {
 
 impl JsonText for NamedArg {
     ghost form = { named_arg_data };
+
+    ghost tree = { NamedArgTree };
 
     fn send<S: Serializer>(&self, alloc: Global, out: &mut S) -> Result<(), S::Error> {
         out.begin_map(Some(2))?;
@@ -65,6 +74,8 @@ impl JsonText for NamedArg {
 impl JsonText for WireError {
     ghost form = { error_data };
 
+    ghost tree = { WireErrorTree };
+
     fn send<S: Serializer>(&self, _alloc: Global, out: &mut S) -> Result<(), S::Error> {
         out.begin_map(Some(2))?;
         out.key("code")?;
@@ -77,6 +88,8 @@ impl JsonText for WireError {
 
 impl JsonText for StmtResult {
     ghost form = { result_data };
+
+    ghost tree = { StmtResultTree };
 
     fn send<S: Serializer>(&self, alloc: Global, out: &mut S) -> Result<(), S::Error> {
         out.begin_map(Some(4))?;

@@ -1,16 +1,15 @@
 // Statements from JSON trees and back.
-ghost use Rattle.std.specs.Prelude.{◌≡◌, IfOk, OnOk, Bool};
-ghost use Rattle.serde_json.specs.View.{view, members_view};
-ghost use Rattle.hrana_stmt.specs.Written.{stmt_object, stmt_data};
-ghost use Rattle.hrana_stmt.specs.Puts.{put_unless, put_sql, put_parts, SqlIdFits};
+ghost use Rattle.std.specs.Prelude.{◌≡◌, IfOk};
+ghost use Rattle.serde_json.specs.View.{view};
 ghost use Rattle.hrana_value.specs.Declines.{Reads, EitherStands, TakesNoMemory};
-ghost use Rattle.hrana_stmt.specs.Tree.{IsObject, ObjectStands, SqlTree, SqlStands, WantsRowsTree, WantsRowsStands, StmtTree, StmtStands, NoTreeIsTwoStatements, FittingStatementsAreRead};
 ghost use Rattle.hrana_stmt.specs.Parts.{HeadTree, HeadStands, StmtPartsTree, StmtPartsStand};
+ghost use Rattle.hrana_stmt.specs.Tree.{IsObject, ObjectStands, SqlTree, SqlStands, WantsRowsTree, WantsRowsStands, StmtTree, StmtStands, NoTreeIsTwoStatements, FittingStatementsAreRead};
+ghost use Rattle.hrana_stmt.specs.Written.{stmt_data};
 
-use crate::arguments::{arguments_of_json, named_args_to_json};
+use crate::arguments::arguments_of_json;
 use crate::{SqlRef, Stmt, sql_of_json};
-use hrana_value::{Decline, NoMemory, ReadFail, both_readings, member_or_null, values_to_json};
-use serde_json::{Map, Value as Json, json, put};
+use hrana_value::{Decline, NoMemory, ReadFail, both_readings, json_of, member_or_null};
+use serde_json::Value as Json;
 use std::alloc::Global;
 
 fn want_rows_of_json(json: &Json) -> Result<bool, ReadFail>
@@ -85,79 +84,13 @@ pub fn stmt_of_json(alloc: Global, json: &Json) -> Result<Stmt, ReadFail>
     )
 }
 
-fn put_unless(
-    members: &mut Map<String, Json>,
-    alloc: Global,
-    absent: bool,
-    name: &str,
-    json: Json,
-) -> Result<(), NoMemory>
-    ensures { OnOk result (members_view members.new.entries ≡ put_unless absent name.now (view json) (members_view members.old.entries)) }
-{
-    if !absent {
-        put(members, alloc, name, json)?;
-    }
-    Ok(())
-}
-
-/// Puts `sql` or `sql_id` into an object.
-pub fn put_sql(members: &mut Map<String, Json>, alloc: Global, sql: &SqlRef) -> Result<(), NoMemory>
-    ensures fits { SqlIdFits sql.now }
-    ensures put { OnOk result (members_view members.new.entries ≡ put_sql sql.now (members_view members.old.entries)) }
-{
-    match sql {
-        SqlRef::Text(text) => {
-            let text = json!(in alloc; text.as_str())?;
-            put(members, alloc, "sql", text)?;
-        }
-        SqlRef::Id(number) => put(members, alloc, "sql_id", Json::from(*number))?,
-    }
-    Ok(())
-}
-
-fn put_stmt(
-    members: &mut Map<String, Json>,
-    alloc: Global,
-    stmt: &Stmt,
-    args: Json,
-    named: Json,
-) -> Result<(), NoMemory>
-    ensures fits { OnOk result (SqlIdFits stmt.now.sql) }
-    ensures put { OnOk result (members_view members.new.entries ≡ put_parts stmt.now (view args) (view named) (members_view members.old.entries)) }
-{
-    let no_args = stmt.args.as_slice().is_empty();
-    let no_named = stmt.named.as_slice().is_empty();
-    put_unless(members, alloc, no_args, "args", args)?;
-    put_unless(members, alloc, no_named, "named_args", named)?;
-    put_sql(members, alloc, &stmt.sql)?;
-    put_unless(
-        members,
-        alloc,
-        stmt.want_rows,
-        "want_rows",
-        Json::Bool(false),
-    )
-}
-
-fn stmt_members(alloc: Global, stmt: &Stmt, args: Json, named: Json) -> Result<Json, NoMemory>
-    ensures fits { OnOk result (SqlIdFits stmt.now.sql) }
-    ensures written { IfOk result (λ json. view json ≡ stmt_object stmt.now (view args) (view named)) }
-{
-    let mut members = Map::new(alloc);
-    put_stmt(&mut members, alloc, stmt, args, named)?;
-    Ok(Json::Object(members))
-}
-
 /// Writes a statement with its members in byte order. What is empty is left out, and so is a `want_rows` that is
 /// true.
 pub fn stmt_to_json(alloc: Global, stmt: &Stmt) -> Result<Json, NoMemory>
     ensures written { IfOk result (λ json. view json ≡ stmt_data stmt.now) }
     ensures reads_back { IfOk result (λ json. StmtTree stmt.now (view json)) }
 {
-    let args = values_to_json(alloc, stmt.args.as_slice())?;
-    let named = named_args_to_json(alloc, stmt.named.as_slice())?;
-    let json = stmt_members(alloc, stmt, args, named)?;
-    Ok(json)
+    json_of(alloc, stmt)
 }
 
 /// A JSON tree is the form of at most one statement.

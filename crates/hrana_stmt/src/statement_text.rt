@@ -5,6 +5,9 @@ ghost use Rattle.serde_json.specs.Events.{members_len};
 ghost use Rattle.serde_json.specs.View.{items_of};
 ghost use Rattle.hrana_value.specs.Sent.{SendsFront};
 ghost use Rattle.hrana_value.specs.Whole.{IsWhole};
+ghost use Rattle.hrana_value.specs.Trees.{ArrayTree};
+ghost use Rattle.hrana_stmt.specs.Puts.{SqlIdFits};
+ghost use Rattle.hrana_stmt.specs.Tree.{StmtTree};
 ghost use Rattle.hrana_stmt.specs.Written.{is_empty, member_unless, sql_member, sql_part, stmt_members, stmt_data};
 
 use crate::{SqlRef, Stmt};
@@ -20,6 +23,7 @@ fn send_list_unless_empty<T: JsonText, S: Serializer>(
 ) -> Result<(), S::Error>
     ensures sends { OnOk result (SendsFront (member_unless (is_empty items.now) name.now (array (items_of (map T.form items.now)))) (S.written out.old) (S.written out.new)) }
     ensures whole { OnOk result (IsWhole (array (items_of (map T.form items.now)))) }
+    ensures back { OnOk result (ArrayTree T.tree items.now (array (items_of (map T.form items.now)))) }
 {
     if items.is_empty() {
         return Ok(());
@@ -32,6 +36,7 @@ fn send_list_unless_empty<T: JsonText, S: Serializer>(
 pub fn send_sql<S: Serializer>(sql: &SqlRef, out: &mut S) -> Result<(), S::Error>
     ensures sends { OnOk result (SendsFront (sql_member sql.now) (S.written out.old) (S.written out.new)) }
     ensures whole { OnOk result (IsWhole (sql_part sql.now)) }
+    ensures fits { OnOk result (SqlIdFits sql.now) }
 {
     match sql {
         SqlRef::Text(text) => {
@@ -66,6 +71,8 @@ fn member_count(stmt: &Stmt) -> usize
 
 impl JsonText for Stmt {
     ghost form = { stmt_data };
+
+    ghost tree = { StmtTree };
 
     fn send<S: Serializer>(&self, alloc: Global, out: &mut S) -> Result<(), S::Error> {
         out.begin_map(Some(member_count(self)))?;

@@ -1,6 +1,6 @@
 -- Texts that are sent event by event, and read back.
-use Rattle.std.proofs.Common.{◌≡◌, ℕ, suc, ◌≤◌, List, [], ◌∷◌, length, drop, take, map, Bool, false, true, ◌||◌, max, Option, None, Some, refl, subst, sym, ap, ◌∙◌, arith, append-nil, option_and_then}
-use Rattle.std.specs.Prelude.{option_map, ℤ, pos, negsuc, FitsSigned, ◌<◌, ◌^◌, ◌+◌}
+use Rattle.std.proofs.Common.{◌≡◌, ℕ, suc, ◌≤◌, List, [], ◌∷◌, length, drop, map, Bool, false, Option, None, Some, refl, subst, sym, ap, ◌∙◌, arith, append-nil, option_and_then}
+use Rattle.std.specs.Prelude.{option_map, ℤ, pos, negsuc, FitsSigned, ◌<◌, ◌^◌}
 use Rattle.std.proofs.lemmas.List.{drop_all}
 use Rattle.std.specs.Int.{w32}
 use Rattle.serde_json.specs.Find.{of_integer}
@@ -12,15 +12,16 @@ use Rattle.json.specs.Tree as tree
 use Rattle.json.specs.Tree.{json_tokens, HasNumbers, ItemsHaveNumbers, MembersHaveNumbers}
 use Rattle.json.proofs.Printed.Trees.{value-json_tokens, ArePrintable-json_tokens}
 use Rattle.json.proofs.Printed.Tokens.{tokens-print}
-use Rattle.serde_json.specs.Data.{Num, unsigned, negative, Data, null, boolean, number, string, array, object, Items, no_items, item, Members, no_members, member, put, depth, items_depth, members_depth}
+use Rattle.serde_json.specs.Data.{unsigned, negative, Data, null, boolean, number, string, array, object, Items, no_items, item, Members, no_members, member, put, depth, items_depth, members_depth}
 use Rattle.serde_json.specs.Events.{items_len, SendsItems, SendsValue}
 use Rattle.serde_json.specs.Read.{read, of_json, of_items, of_members, max_depth}
 use Rattle.serde_json.specs.View.{items_of}
-use Rattle.serde_json.specs.Written.{outline, items_outline, members_outline, has_float, items_have_float, members_have_float, compact_text}
+use Rattle.serde_json.specs.Written.{outline, items_outline, members_outline, members_have_float, compact_text}
 use Rattle.serde_json.proofs.Texts.{print-outline}
 use Rattle.serde_json.proofs.Numbers.{number_of-decimal, number_of-negative}
 use Rattle.json.proofs.Printed.Decimals.{IsNumber-decimal, IsNumber-signed_decimal}
-use Rattle.hrana_value.specs.Whole.{IsWhole}
+use Rattle.hrana_value.specs.Trees.{ItemsTree}
+use Rattle.hrana_value.specs.Whole.{IsWhole, PartsWhole}
 use Rattle.hrana_value.specs.Written.{value_data}
 use Rattle.hrana_value.specs.declared.value.Value.{Value}
 use Rattle.hrana_value.specs.declared.value.Value.TheVariants.{Null, Integer, Text, Blob}
@@ -76,6 +77,10 @@ list_sent f xs i n old first now end count over begun inv ends = (
 abbrev pub EndsWhole : {A : Type 0} → (A → Data) → List A → ℕ → Type 0
 EndsWhole f xs i = IsWhole (array (items_of (map f (drop i xs)))) → IsWhole (array (items_of (map f xs)))
 
+-- whatever is left, what is a form of it there makes all of it one of all
+abbrev pub EndsTree : {A : Type 0} → (A → Data → Type 0) → (A → Data) → List A → ℕ → Type 0
+EndsTree tree f xs i = ItemsTree tree (drop i xs) (items_of (map f (drop i xs))) → ItemsTree tree xs (items_of (map f xs))
+
 some_item : (d : Data) (ds : Items) → of_json (outline d) ≡ Some d → option_map array (of_items (items_outline ds)) ≡ Some (array ds) → option_map array (of_items (items_outline (item d ds))) ≡ Some (array (item d ds))
 some_item d ds p q = rw p (over (of_items (items_outline ds)) q) where
   over : (o : Option Items) → option_map array o ≡ Some (array ds) → option_map array (option_map (item d) o) ≡ Some (array (item d ds))
@@ -109,10 +114,6 @@ whole_int32 (pos n) fits = whole_unsigned n (let small : n < 2 ^ 31 = fits.sfits
 whole_int32 (negsuc n) fits = whole_negative n (let small : n < 2 ^ 31 = fits.sfits in omega arith)
 
 -- ---- objects
-
-abbrev pub PartsWhole : Members → Type 0
-PartsWhole no_members = Unit {0}
-PartsWhole (member k d ms) = IsWhole d × PartsWhole ms
 
 -- the members, put into an object one after another
 abbrev pub put_all : Members → Members → Members

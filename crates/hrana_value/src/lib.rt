@@ -28,14 +28,16 @@ pub use members::{int32_member, is_absent, member_or_null, text_member};
 pub use names::{index_of, name};
 pub use numbers::{int32, int32_of_json, uint32, uint32_of_json, uint64, uint64_of_json};
 pub use readings::{both_readings, with_item};
-pub use sending::{JsonText, send_int32, send_list, send_uint64, text_of};
+pub use sending::{
+    JsonText, end_with_text, json_of, send_int32, send_list, send_text_member, send_uint64, text_of,
+};
 pub use text::Txt;
 pub use texts::text_of_json;
 pub use tree::{
     VALUE_KINDS, no_tree_is_two_values, no_value_is_declined, value_kinds_differ, value_of_json,
 };
 pub use value::{Value, Values};
-pub use written::{value_to_json, values_to_json};
+pub use written::value_to_json;
 
 /// The number of a stream, from 1 in the order of opening.
 #[derive(Clone, Copy, Debug, PartialEq, Eq)]

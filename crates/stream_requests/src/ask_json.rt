@@ -1,21 +1,21 @@
-// The members of asks from JSON trees and back, which both transports share: all but `type` and the ids of stream and
+// The members of asks from JSON trees, which both transports share: all but `type` and the ids of stream and
 // cursor (HRANA_3_SPEC, "Requests").
-ghost use Rattle.std.specs.Prelude.{OnOk, ◌≡◌, ◌<◌, length, codes, IsSomeAnd};
+ghost use Rattle.std.specs.Prelude.{◌<◌, length, codes, IsSomeAnd};
 ghost use Rattle.serde_json.specs.Find.{as_str};
-ghost use Rattle.serde_json.specs.View.{view, members_view};
+ghost use Rattle.serde_json.specs.View.{view};
 ghost use Rattle.hrana_value.specs.Declines.{Reads, Only, EitherStands};
 ghost use Rattle.hrana_value.specs.Members.{HasText, HasInt32, TextTree, Int32Tree, Int32Stands};
 ghost use Rattle.hrana_value.specs.declared.failures.Decline.TheVariants.{Range};
-ghost use Rattle.stream_requests.specs.Asks.{IsAskOf, AskMembersStand, StoredTextStands, put_ask, AskReadsBack, NoMembersAreTwoAsks, FittingAsksAreRead};
+ghost use Rattle.stream_requests.specs.Asks.{IsAskOf, AskMembersStand, StoredTextStands, NoMembersAreTwoAsks, FittingAsksAreRead};
 
 use crate::{Ask, AskKind};
-use hrana_batch::{batch_of_json, batch_to_json, fitting_batches_are_read, no_tree_is_two_batches};
-use hrana_stmt::{MAX_SQL_BYTES, put_sql, sql_of_json, stmt_of_json, stmt_to_json};
+use hrana_batch::{batch_of_json, fitting_batches_are_read, no_tree_is_two_batches};
+use hrana_stmt::{MAX_SQL_BYTES, sql_of_json, stmt_of_json};
 use hrana_value::{
-    Decline, NoMemory, ReadFail, Txt, both_readings, int32_of_json, member_or_null, members,
+    Decline, ReadFail, Txt, both_readings, int32_of_json, member_or_null, members,
     text_of_json, uint32_of_json,
 };
-use serde_json::{Map, Value as Json, json, put};
+use serde_json::Value as Json;
 use std::alloc::Global;
 
 fn execute_of_json(alloc: Global, json: &Json) -> Result<Ask, ReadFail>
@@ -127,49 +127,6 @@ pub fn ask_of_json(alloc: Global, kind: AskKind, json: &Json) -> Result<Ask, Rea
         AskKind::CloseSql => close_sql_of_json(json),
         AskKind::Close => Ok(Ask::Close),
     }
-}
-
-fn put_stored(
-    members: &mut Map<String, Json>,
-    alloc: Global,
-    id: i32,
-    sql: &Txt,
-) -> Result<(), NoMemory>
-    ensures put { OnOk result (members_view members.new.entries ≡ put_ask (Ask.StoreSql id sql.now) (members_view members.old.entries)) }
-    ensures reads_back { AskReadsBack (Ask.StoreSql id sql.now) }
-{
-    let text = json!(in alloc; sql.as_str())?;
-    put(members, alloc, "sql", text)?;
-    Ok(put(members, alloc, "sql_id", Json::from(id))?)
-}
-
-/// Puts the members of an ask into an object.
-pub fn put_ask(members: &mut Map<String, Json>, alloc: Global, ask: &Ask) -> Result<(), NoMemory>
-    ensures put { OnOk result (members_view members.new.entries ≡ put_ask ask.now (members_view members.old.entries)) }
-    ensures reads_back { OnOk result (AskReadsBack ask.now) }
-{
-    match ask {
-        Ask::Execute(stmt) => {
-            let stmt = stmt_to_json(alloc, stmt)?;
-            put(members, alloc, "stmt", stmt)?;
-        }
-        Ask::Batch(batch) => {
-            let batch = batch_to_json(alloc, batch)?;
-            put(members, alloc, "batch", batch)?;
-        }
-        Ask::Sequence(sql) => put_sql(members, alloc, sql)?,
-        Ask::Cursor(batch) => {
-            let batch = batch_to_json(alloc, batch)?;
-            put(members, alloc, "batch", batch)?;
-        }
-        Ask::Fetch(count) => put(members, alloc, "max_count", Json::from(*count))?,
-        Ask::StoreSql { id, sql } => put_stored(members, alloc, *id, sql)?,
-        Ask::CloseSql(id) => put(members, alloc, "sql_id", Json::from(*id))?,
-        Ask::CloseCursor => {}
-        Ask::GetAutocommit => {}
-        Ask::Close => {}
-    }
-    Ok(())
 }
 
 /// Members are those of at most one ask of a kind.

@@ -1,5 +1,5 @@
-// Cursor entries from JSON trees and back (HRANA_3_SPEC, "Cursor entries").
-ghost use Rattle.std.specs.Prelude.{◌≡◌, ◌<◌, ◌^◌, IfOk, MatchOption, map};
+// Cursor entries from JSON trees (HRANA_3_SPEC, "Cursor entries").
+ghost use Rattle.std.specs.Prelude.{◌≡◌, MatchOption, map};
 ghost use Rattle.serde_json.specs.View.{view, items_view};
 ghost use Rattle.hrana_value.specs.Declines.{Reads, EitherStands};
 ghost use Rattle.hrana_value.specs.Members.{HasText, Uint64Tree, Uint64Stands};
@@ -8,20 +8,16 @@ ghost use Rattle.hrana_value.specs.Names.{RowsDiffer};
 ghost use Rattle.hrana_value.specs.Trees.{ItemsTree, ItemsStand, ArrayTree, ArrayStands, OptionalTree, OptionalStands};
 ghost use Rattle.stream_requests.specs.Entries.{entry_name, EntryTree, EntryStands, EntryMembersStand, NoTreeIsTwoEntries, EntriesAreRead};
 ghost use Rattle.stream_requests.specs.EntryParts.{IsEntryOf};
-ghost use Rattle.stream_requests.specs.WrittenEntries.{begin_object, end_object, step_error_object, row_object, error_object, entry_data, entries_data};
 ghost use Rattle.stream_requests.specs.declared.entries.EntryKind.{EntryKind};
 
 use crate::{CursorEntry, EntryKind, EntryList};
-use hrana_stmt::{
-    Cols, WireError, cols_to_json, error_of_json, error_to_json, optional_int64_to_json,
-    row_to_json,
-};
+use hrana_stmt::error_of_json;
 use hrana_value::{
-    Decline, JsonForm, NoMemory, ReadFail, Values, both_readings, index_of, list_of_json,
+    Decline, JsonForm, ReadFail, both_readings, index_of, list_of_json,
     member_or_null, members, optional_int64_text_of_json, text_member, uint32_of_json,
     uint64_of_json,
 };
-use serde_json::{Map, Value as Json, json, put};
+use serde_json::Value as Json;
 use std::alloc::Global;
 
 /// The `type` of each kind of cursor entry.
@@ -140,131 +136,6 @@ pub fn entries_of_json(alloc: Global, json: &Json) -> Result<EntryList, ReadFail
     ensures { Reads (λ entries. ArrayTree EntryTree entries (view json.now)) (ArrayStands EntryStands (view json.now)) result }
 {
     list_of_json(alloc, json)
-}
-
-fn begin_members(alloc: Global, step: u32, cols: Json) -> Result<Json, NoMemory>
-    ensures written { IfOk result (λ json. view json ≡ begin_object step (view cols)) }
-    ensures fits { step < 2 ^ 32 }
-{
-    let mut members = Map::new(alloc);
-    put(&mut members, alloc, "cols", cols)?;
-    put(&mut members, alloc, "step", Json::from(step))?;
-    put(&mut members, alloc, "type", json!(in alloc; "step_begin")?)?;
-    Ok(Json::Object(members))
-}
-
-fn begin_to_json(alloc: Global, step: u32, cols: &Cols) -> Result<Json, NoMemory>
-    ensures written { IfOk result (λ json. view json ≡ entry_data (CursorEntry.StepBegin step cols.now)) }
-    ensures reads_back { IfOk result (λ json. EntryTree (CursorEntry.StepBegin step cols.now) (view json)) }
-{
-    let columns = cols_to_json(alloc, cols.as_slice())?;
-    begin_members(alloc, step, columns)
-}
-
-fn end_members(alloc: Global, affected: u64, rowid: Json) -> Result<Json, NoMemory>
-    ensures written { IfOk result (λ json. view json ≡ end_object affected (view rowid)) }
-    ensures fits { affected < 2 ^ 64 }
-{
-    let mut members = Map::new(alloc);
-    put(
-        &mut members,
-        alloc,
-        "affected_row_count",
-        Json::from(affected),
-    )?;
-    put(&mut members, alloc, "last_insert_rowid", rowid)?;
-    put(&mut members, alloc, "type", json!(in alloc; "step_end")?)?;
-    Ok(Json::Object(members))
-}
-
-fn end_to_json(alloc: Global, affected: u64, last_rowid: Option<i64>) -> Result<Json, NoMemory>
-    ensures written { IfOk result (λ json. view json ≡ entry_data (CursorEntry.StepEnd affected last_rowid)) }
-    ensures reads_back { IfOk result (λ json. EntryTree (CursorEntry.StepEnd affected last_rowid) (view json)) }
-{
-    let rowid = optional_int64_to_json(alloc, last_rowid)?;
-    end_members(alloc, affected, rowid)
-}
-
-fn step_error_members(alloc: Global, step: u32, error: Json) -> Result<Json, NoMemory>
-    ensures written { IfOk result (λ json. view json ≡ step_error_object step (view error)) }
-    ensures fits { step < 2 ^ 32 }
-{
-    let mut members = Map::new(alloc);
-    put(&mut members, alloc, "error", error)?;
-    put(&mut members, alloc, "step", Json::from(step))?;
-    put(&mut members, alloc, "type", json!(in alloc; "step_error")?)?;
-    Ok(Json::Object(members))
-}
-
-fn step_error_to_json(alloc: Global, step: u32, error: &WireError) -> Result<Json, NoMemory>
-    ensures written { IfOk result (λ json. view json ≡ entry_data (CursorEntry.StepError step error.now)) }
-    ensures reads_back { IfOk result (λ json. EntryTree (CursorEntry.StepError step error.now) (view json)) }
-{
-    let error = error_to_json(alloc, error)?;
-    step_error_members(alloc, step, error)
-}
-
-fn row_members(alloc: Global, row: Json) -> Result<Json, NoMemory>
-    ensures { IfOk result (λ json. view json ≡ row_object (view row)) }
-{
-    let mut members = Map::new(alloc);
-    put(&mut members, alloc, "row", row)?;
-    put(&mut members, alloc, "type", json!(in alloc; "row")?)?;
-    Ok(Json::Object(members))
-}
-
-fn row_entry_to_json(alloc: Global, row: &Values) -> Result<Json, NoMemory>
-    ensures written { IfOk result (λ json. view json ≡ entry_data (CursorEntry.Row row.now)) }
-    ensures reads_back { IfOk result (λ json. EntryTree (CursorEntry.Row row.now) (view json)) }
-{
-    let row = row_to_json(alloc, row)?;
-    row_members(alloc, row)
-}
-
-fn error_members(alloc: Global, error: Json) -> Result<Json, NoMemory>
-    ensures { IfOk result (λ json. view json ≡ error_object (view error)) }
-{
-    let mut members = Map::new(alloc);
-    put(&mut members, alloc, "error", error)?;
-    put(&mut members, alloc, "type", json!(in alloc; "error")?)?;
-    Ok(Json::Object(members))
-}
-
-fn error_entry_to_json(alloc: Global, error: &WireError) -> Result<Json, NoMemory>
-    ensures written { IfOk result (λ json. view json ≡ entry_data (CursorEntry.Error error.now)) }
-    ensures reads_back { IfOk result (λ json. EntryTree (CursorEntry.Error error.now) (view json)) }
-{
-    let error = error_to_json(alloc, error)?;
-    error_members(alloc, error)
-}
-
-/// Writes a cursor entry with all its members, in byte order. A row id that is missing is null.
-pub fn entry_to_json(alloc: Global, entry: &CursorEntry) -> Result<Json, NoMemory>
-    ensures written { IfOk result (λ json. view json ≡ entry_data entry.now) }
-    ensures reads_back { IfOk result (λ json. EntryTree entry.now (view json)) }
-{
-    match entry {
-        CursorEntry::StepBegin { step, cols } => begin_to_json(alloc, *step, cols),
-        CursorEntry::StepEnd {
-            affected,
-            last_rowid,
-        } => end_to_json(alloc, *affected, *last_rowid),
-        CursorEntry::StepError { step, error } => step_error_to_json(alloc, *step, error),
-        CursorEntry::Row(row) => row_entry_to_json(alloc, row),
-        CursorEntry::Error(error) => error_entry_to_json(alloc, error),
-    }
-}
-
-/// Writes cursor entries as a JSON array.
-pub fn entries_to_json(alloc: Global, entries: &[CursorEntry]) -> Result<Json, NoMemory>
-    ensures written { IfOk result (λ json. view json ≡ entries_data entries.now) }
-    ensures reads_back { IfOk result (λ json. ArrayTree EntryTree entries.now (view json)) }
-{
-    let mut items = Vec::new(alloc);
-    for entry in entries {
-        items.push(entry_to_json(alloc, entry)?)?;
-    }
-    Ok(Json::Array(items))
 }
 
 /// No two kinds of entry have one `type`.

@@ -1,19 +1,15 @@
-// The members of replies from JSON trees and back, which both transports share: all but `type`.
-ghost use Rattle.std.specs.Prelude.{OnOk, ◌≡◌};
-ghost use Rattle.serde_json.specs.View.{view, members_view};
+// The members of replies from JSON trees, which both transports share: all but `type`.
+ghost use Rattle.serde_json.specs.View.{view};
 ghost use Rattle.hrana_value.specs.Declines.{Reads, EitherStands};
 ghost use Rattle.hrana_value.specs.Trees.{ArrayTree, ArrayStands};
 ghost use Rattle.stream_requests.specs.Entries.{EntryTree, EntryStands};
-ghost use Rattle.stream_requests.specs.Replies.{BooleanTree, BooleanStands, IsReplyTo, ReplyMembersStand, put_reply, ReplyReadsBack, NoMembersAreTwoReplies, RepliesAreRead};
+ghost use Rattle.stream_requests.specs.Replies.{BooleanTree, BooleanStands, IsReplyTo, ReplyMembersStand, NoMembersAreTwoReplies, RepliesAreRead};
 
-use crate::{AskKind, EntryList, Reply, entries_of_json, entries_to_json};
-use hrana_batch::{
-    batch_result_of_json, batch_result_to_json, batch_results_are_read,
-    no_tree_is_two_batch_results,
-};
-use hrana_stmt::{result_of_json, result_to_json};
-use hrana_value::{Decline, NoMemory, ReadFail, both_readings, member_or_null, members};
-use serde_json::{Map, Value as Json, put};
+use crate::{AskKind, Reply, entries_of_json};
+use hrana_batch::{batch_result_of_json, batch_results_are_read, no_tree_is_two_batch_results};
+use hrana_stmt::result_of_json;
+use hrana_value::{Decline, ReadFail, both_readings, member_or_null, members};
+use serde_json::Value as Json;
 use std::alloc::Global;
 
 fn executed_of_json(alloc: Global, json: &Json) -> Result<Reply, ReadFail>
@@ -72,52 +68,6 @@ pub fn reply_of_json(alloc: Global, kind: AskKind, json: &Json) -> Result<Reply,
         AskKind::CloseSql => Ok(Reply::SqlClosed),
         AskKind::Close => Ok(Reply::Closed),
     }
-}
-
-fn put_fetched(
-    members: &mut Map<String, Json>,
-    alloc: Global,
-    entries: &EntryList,
-    done: bool,
-) -> Result<(), NoMemory>
-    ensures put { OnOk result (members_view members.new.entries ≡ put_reply (Reply.Fetched entries.now done) (members_view members.old.entries)) }
-    ensures reads_back { OnOk result (ReplyReadsBack (Reply.Fetched entries.now done)) }
-{
-    let entries = entries_to_json(alloc, entries.as_slice())?;
-    put(members, alloc, "done", Json::Bool(done))?;
-    Ok(put(members, alloc, "entries", entries)?)
-}
-
-/// Puts the members of a reply into an object.
-pub fn put_reply(
-    members: &mut Map<String, Json>,
-    alloc: Global,
-    reply: &Reply,
-) -> Result<(), NoMemory>
-    ensures put { OnOk result (members_view members.new.entries ≡ put_reply reply.now (members_view members.old.entries)) }
-    ensures reads_back { OnOk result (ReplyReadsBack reply.now) }
-{
-    match reply {
-        Reply::Execute(given) => {
-            let given = result_to_json(alloc, given)?;
-            put(members, alloc, "result", given)?;
-        }
-        Reply::Batch(given) => {
-            let given = batch_result_to_json(alloc, given)?;
-            put(members, alloc, "result", given)?;
-        }
-        Reply::Fetched { entries, done } => put_fetched(members, alloc, entries, *done)?,
-        Reply::Autocommit(auto) => put(members, alloc, "is_autocommit", Json::Bool(*auto))?,
-        Reply::StreamOpened => {}
-        Reply::Sequence => {}
-        Reply::Cursor => {}
-        Reply::CursorClosed => {}
-        Reply::SqlStored => {}
-        Reply::SqlClosed => {}
-        Reply::Closed => {}
-        Reply::Failed(_) => {}
-    }
-    Ok(())
 }
 
 /// Members are those of at most one reply to asks of a kind.

@@ -1,6 +1,6 @@
 use Rattle.std.proofs.Common.{◌≡◌, subst}
 use Rattle.serde_json.specs.View.{view}
-use Rattle.hrana_value.proofs.WrittenLemmas.{IfOk-weaken}
+use Rattle.hrana_batch.proofs.WrittenItems.{IfOk-weaken}
 use Rattle.hrana_value.specs.Trees.{ArrayTree}
 use Rattle.hrana_batch.specs.Tree.{StepTree, BatchTree}
 use Rattle.hrana_batch.specs.Written.{batch_object}

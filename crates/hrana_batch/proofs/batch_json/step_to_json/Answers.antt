@@ -1,6 +1,6 @@
 use Rattle.std.proofs.Common.{◌≡◌, option_map}
 use Rattle.serde_json.specs.View.{view}
-use Rattle.hrana_value.proofs.WrittenLemmas.{IfOk-weaken}
+use Rattle.hrana_batch.proofs.WrittenItems.{IfOk-weaken}
 use Rattle.hrana_batch.specs.Tree.{StepTree}
 use Rattle.hrana_batch.specs.Written.{step_object, step_data}
 use Rattle.hrana_batch.proofs.BatchWritten.{step_written, step_back}

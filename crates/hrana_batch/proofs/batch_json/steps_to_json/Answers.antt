@@ -1,7 +1,7 @@
 use Rattle.std.proofs.Common.{take, ◌+◌, subst, sym}
 use Rattle.hrana_batch.specs.Tree.{StepTree}
 use Rattle.hrana_batch.specs.Written.{step_data}
-use Rattle.hrana_value.proofs.WrittenItems.{ItemsWritten, ItemsWritten-array, ItemsWritten-tree, ItemsWritten-more}
+use Rattle.hrana_batch.proofs.WrittenItems.{ItemsWritten, ItemsWritten-array, ItemsWritten-tree, ItemsWritten-more}
 use Rattle.hrana_batch.proofs.batch_json.steps_to_json.Goals as goal
 
 pub returns-clause-written : goal.returns-clause-written

@@ -1,5 +1,5 @@
 use Rattle.std.proofs.Common.{take}
-use Rattle.hrana_value.proofs.WrittenItems.{ItemsWritten}
+use Rattle.hrana_batch.proofs.WrittenItems.{ItemsWritten}
 use Rattle.hrana_batch.specs.Tree.{CondTree}
 use Rattle.hrana_batch.specs.Written.{cond_data}
 use Rattle.hrana_batch.proofs.condition_json.+writing.Given as goal

@@ -1,6 +1,6 @@
 use Rattle.std.proofs.Common.{◌≡◌, ◌∙◌, sym, codes}
 use Rattle.serde_json.specs.View.{view}
-use Rattle.hrana_value.proofs.WrittenLemmas.{IfOk-weaken}
+use Rattle.hrana_batch.proofs.WrittenItems.{IfOk-weaken}
 use Rattle.hrana_batch.specs.declared.conditions.Cond.TheVariants.{StepOk}
 use Rattle.hrana_batch.specs.Tree.{CondTree}
 use Rattle.hrana_batch.specs.Written.{cond_data, step_cond}

@@ -5,6 +5,10 @@ use Rattle.serde_json.specs.Data.{array}
 use Rattle.hrana_value.specs.Written.{values_data}
 use Rattle.hrana_value.specs.Sent.{SendsFront}
 use Rattle.hrana_stmt.specs.Written.{is_empty, member_unless, named_args_data}
+use Rattle.hrana_value.specs.Tree.{ValueTree}
+use Rattle.hrana_value.specs.Trees.{ArrayTree}
+use Rattle.hrana_stmt.specs.Tree.{NamedArgTree}
+use Rattle.hrana_stmt.proofs.StmtWritten.{stmt_back}
 use Rattle.hrana_stmt.proofs.statement_text.StmtJsonText.send.Goals as goal
 
 pub returns-clause-sends : goal.returns-clause-sends
@@ -18,3 +22,9 @@ returns-clause-sends g c =
       begun,
       args _ _ (named _ _ (c.in_ok-send_sql.ensures.sends _ _ (c.in_ok-send_want_rows.ensures _ _ e))),
     )) c.end_map.ensures
+
+pub returns-clause-back : goal.returns-clause-back
+returns-clause-back g c =
+    let args = subst (λ vs. ArrayTree ValueTree vs (array (values_data vs))) c.as_slice.ensures c.in_ok-send_list_unless_empty.ensures.back in
+    let named = subst (λ ns. ArrayTree NamedArgTree ns (named_args_data ns)) c.as_slice-2.ensures c.in_ok-send_list_unless_empty-2.ensures.back in
+    on_ok_weaker c.end_map.result (λ e. stmt_back c.args.self.now args named c.in_ok-send_sql.ensures.fits) c.end_map.ensures

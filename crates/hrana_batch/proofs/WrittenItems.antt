@@ -1,6 +1,6 @@
--- Arrays that are written item by item.
+-- Trees that are written item by item.
 use Rattle.std.proofs.Common.{◌≡◌, ℕ, ◌+◌, ◌<◌, ◌≤◌, List, [], ◌∷◌, ◌++◌, length, get_or, take, map, refl, subst, sym, ◌∙◌, ap}
-use Rattle.std.specs.Prelude.{Vec}
+use Rattle.std.specs.Prelude.{Vec, Result, Ok, Err, IfOk}
 use Rattle.std.specs.declared.alloc.Global.{Global}
 use Rattle.std.proofs.lemmas.List.{take_more, take_all, map-append}
 use Rattle.serde_json.specs.Data.{Data, array}
@@ -36,3 +36,7 @@ pub ItemsWritten-tree : {A : Type 0} (tree : A → Data → Type 0) (written : A
     → ArrayTree tree xs (view (Array v))
 ItemsWritten-tree tree written xs i v h p =
     subst (ArrayTree tree xs) (sym (view-Array v)) (subst (λ l. ItemsTree tree l (items_view v.items)) (take_all i xs h) p.reads_back)
+
+pub IfOk-weaken : {A E : Type 0} (r : Result A E) (p q : A → Type 0) → ((x : A) → p x → q x) → IfOk r p → IfOk r q
+IfOk-weaken (Ok x) p q to h = to x h
+IfOk-weaken (Err e) p q to h = tt
