@@ -40,11 +40,7 @@ fn send_refusal<S: Serializer>(code: Code, out: &mut S) -> Result<(), S::Error>
     out.end_map()
 }
 
-fn send_answer<S: Serializer>(
-    alloc: Global,
-    answer: &Answer,
-    out: &mut S,
-) -> Result<(), S::Error>
+fn send_answer<S: Serializer>(alloc: Global, answer: &Answer, out: &mut S) -> Result<(), S::Error>
     ensures sends { OnOk result (SendsValue (answer_data answer.now) (S.written out.old) (S.written out.new)) }
     ensures whole { OnOk result (IsWhole (answer_data answer.now)) }
 {
@@ -54,11 +50,7 @@ fn send_answer<S: Serializer>(
     }
 }
 
-fn send_bound<S: Serializer>(
-    alloc: Global,
-    stmt: &BoundStmt,
-    out: &mut S,
-) -> Result<(), S::Error>
+fn send_bound<S: Serializer>(alloc: Global, stmt: &BoundStmt, out: &mut S) -> Result<(), S::Error>
     ensures sends { OnOk result (SendsValue (bound_data stmt.now) (S.written out.old) (S.written out.new)) }
     ensures whole { OnOk result (IsWhole (bound_data stmt.now)) }
 {
