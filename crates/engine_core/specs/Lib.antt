@@ -6,6 +6,7 @@ pub mod Transactions
 pub mod Journal
 pub mod Listed
 pub mod Noted
+pub mod Notes
 pub mod Plain
 pub mod PlainMeaning
 pub mod Transfer

@@ -3,6 +3,7 @@ use Rattle.std.specs.Prelude.{◌≡◌, ◌↔◌, ℕ, ◌+◌, ◌-◌, ◌^�
 use Rattle.engine_core.specs.declared.byte_source.ByteSource.{ByteSource}
 use Rattle.engine_core.specs.declared.byte_sink.ByteSink.{ByteSink}
 use Rattle.engine_core.specs.declared.failing.Failing.{Failing}
+use Rattle.engine_core.specs.declared.listed_calls.ListedCalls.{ListedCalls}
 
 -- the bytes that a source in memory has left, those that a sink in memory was given, and the faults of both
 abbrev pub source_left : ByteSource → List ℕ
@@ -28,8 +29,14 @@ source_calls s = record { fail_at = s.fail_at.items; calls = s.calls }
 abbrev pub sink_calls : ByteSink → Listed
 sink_calls s = record { fail_at = s.fail_at.items; calls = s.calls }
 
+abbrev pub calls_of : ListedCalls → Listed
+calls_of l = record { fail_at = l.fail_at.items; calls = l.calls }
+
+abbrev pub faults_of : ListedCalls → ℕ
+faults_of l = l.faults
+
 abbrev pub engine_calls : {E D : Type 0} → Failing E D → Listed
-engine_calls f = record { fail_at = f.fail_at.items; calls = f.calls }
+engine_calls f = calls_of f.listed
 
 -- the next call fails. The count of calls stays at its last value once it is there.
 abbrev pub FailsNext : Listed → Type 0

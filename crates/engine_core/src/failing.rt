@@ -1,7 +1,7 @@
 // An engine some of whose calls fail.
 ghost use Rattle.std.specs.Prelude.{◌≡◌, IfOk};
 
-use crate::{BoundStmt, Engine, EngineFail};
+use crate::{BoundStmt, Engine, EngineFail, ListedCalls};
 use hrana_stmt::StmtResult;
 use hrana_value::NoMemory;
 use std::alloc::Global;
@@ -11,15 +11,11 @@ use std::alloc::Global;
 #[derive(Drop)]
 pub struct Failing<E: Engine + Drop> {
     engine: E,
-    fail_at: Vec<u64>,
-    calls: u64,
-    faults: u64,
+    listed: ListedCalls,
 }
 
 impl<E: Engine + Drop> Failing<E> {
-    ghost use Rattle.std.specs.Prelude.{◌≤◌, true, false};
-    ghost use Rattle.engine_core.specs.Causes.{Rose};
-    ghost use Rattle.engine_core.specs.Listed.{engine_calls, FailsAsListed};
+    ghost use Rattle.engine_core.specs.Listed.{engine_calls};
     ghost use Rattle.engine_core.specs.Transactions.{SameLive};
 
     pub fn new(alloc: Global, engine: E, fail_at: &[u64]) -> Result<Failing<E>, NoMemory>
@@ -29,31 +25,14 @@ impl<E: Engine + Drop> Failing<E> {
     {
         Ok(Failing {
             engine,
-            fail_at: fail_at.to_vec(alloc)?,
-            calls: 0,
-            faults: 0,
+            listed: ListedCalls::new(alloc, fail_at)?,
         })
-    }
-
-    // Counts a call, and says whether it is one of those that fail. Such a call is a fault.
-    fn fails(&mut self) -> bool
-        ensures engine { self.new.engine ≡ self.old.engine }
-        ensures calls { FailsAsListed (engine_calls self.old) (engine_calls self.new) result }
-        ensures later { self.old.faults ≤ self.new.faults }
-        ensures rose { result ≡ true → Rose self.old.faults self.new.faults }
-        ensures same { result ≡ false → self.new.faults ≡ self.old.faults }
-    {
-        self.calls = self.calls.saturating_add(1);
-        let fails = self.fail_at.contains(&self.calls);
-        if fails {
-            self.faults = self.faults.saturating_add(1);
-        }
-        fails
     }
 }
 
 impl<E: Engine + Drop> Engine for Failing<E> {
     ghost use Rattle.std.specs.Prelude.{◌+◌};
+    ghost use Rattle.engine_core.specs.Listed.{faults_of};
 
     const SHARED: bool = E::SHARED;
 
@@ -69,7 +48,7 @@ impl<E: Engine + Drop> Engine for Failing<E> {
 
     ghost live = { λ f. E.live f.engine };
 
-    ghost faults = { λ f. E.faults f.engine + f.faults };
+    ghost faults = { λ f. E.faults f.engine + faults_of f.listed };
 
     ghost reads = { E.reads };
 
@@ -78,14 +57,14 @@ impl<E: Engine + Drop> Engine for Failing<E> {
     ghost refusals = { E.refusals };
 
     fn begin(&mut self, txn: u64, write: bool) -> Result<(), EngineFail> {
-        if self.fails() {
+        if self.listed.fails() {
             return Err(EngineFail::Fault);
         }
         self.engine.begin(txn, write)
     }
 
     fn run(&mut self, txn: u64, stmt: &BoundStmt) -> Result<StmtResult, EngineFail> {
-        if self.fails() {
+        if self.listed.fails() {
             self.engine.drop_txn(txn);
             return Err(EngineFail::Fault);
         }
@@ -93,7 +72,7 @@ impl<E: Engine + Drop> Engine for Failing<E> {
     }
 
     fn commit(&mut self, txn: u64) -> Result<(), EngineFail> {
-        if self.fails() {
+        if self.listed.fails() {
             self.engine.drop_txn(txn);
             return Err(EngineFail::Fault);
         }
@@ -105,7 +84,7 @@ impl<E: Engine + Drop> Engine for Failing<E> {
     }
 
     fn alone(&mut self, stmt: &BoundStmt) -> Result<StmtResult, EngineFail> {
-        if self.fails() {
+        if self.listed.fails() {
             return Err(EngineFail::Fault);
         }
         self.engine.alone(stmt)

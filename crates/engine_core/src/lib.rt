@@ -3,10 +3,14 @@
 
 mod byte_sink;
 mod byte_source;
+mod copies;
 mod engine;
 mod entries;
 mod failing;
+mod file_sink;
+mod journal;
 mod limits;
+mod listed_calls;
 mod noted;
 mod outside;
 mod plain_keeper;
@@ -19,8 +23,11 @@ pub use byte_source::ByteSource;
 pub use engine::{Engine, EngineFail};
 pub use entries::{Answer, Broken, Deny, Entry, How, Undo};
 pub use failing::Failing;
+pub use file_sink::FileSink;
 pub use hrana_value::NoMemory;
+pub use journal::{Journal, JournalFail};
 pub use limits::{MAX_INPUT_BYTES, MAX_RESULT_BYTES, MAX_ROWS, limits_are};
+pub use listed_calls::ListedCalls;
 pub use noted::Entries;
 pub use outside::{Failed, ReaderSource, Sink, Source, WriterSink};
 pub use plain_keeper::PlainKeeper;

@@ -1,27 +1,29 @@
 // The entries of a run that no journal took yet.
-ghost use Rattle.std.specs.Prelude.{◌≡◌, ◌+◌, ◌-◌, ◌^◌, ◌<◌, ◌≤◌, [], ◌∷◌, ◌++◌, IfOk, OnOk};
+ghost use Rattle.std.specs.Prelude.{◌≡◌, ◌+◌, ◌-◌, ◌^◌, ◌<◌, ◌≤◌, [], ◌∷◌, ◌++◌, IfOk, OnOk, MatchOption};
 ghost use Rattle.engine_core.specs.Noted.{Noted, next_after, IsNumbered};
 
 use crate::Entry;
 use hrana_value::NoMemory;
 use std::alloc::Global;
+use std::collections::VecDeque;
 use std::marker::Model;
 
 /// The entries of a run that no journal took yet, with places that are ready for more. Contracts see the list, the
 /// number of spare places, and the number that the next unit takes.
 #[derive(Drop)]
 pub struct Entries {
-    items: Vec<Entry>,
+    items: VecDeque<Entry>,
     next: u64,
 }
 
 impl Model for Entries {
-    ghost use Rattle.std.specs.Prelude.{◌-◌, vec_capacity, vec_len};
+    ghost use Rattle.std.specs.Prelude.{◌-◌};
+    ghost use Rattle.std.specs.VecDeque.{deque_len, deque_capacity};
     ghost use Rattle.engine_core.specs.Noted.{Noted};
 
     ghost Value = { Noted };
 
-    ghost view = { λ e. record { list = e.items.items; spare = vec_capacity e.items - vec_len e.items; next = e.next } };
+    ghost view = { λ e. record { list = e.items.items; spare = deque_capacity e.items - deque_len e.items; next = e.next } };
 }
 
 impl Entries {
@@ -30,7 +32,7 @@ impl Entries {
         ensures next { IfOk result (λ entries. entries.next ≡ 1) }
     {
         Ok(Entries {
-            items: Vec::new(alloc),
+            items: VecDeque::new(alloc),
             next: 1,
         })
     }
@@ -59,7 +61,16 @@ impl Entries {
             }
             _ => {}
         }
-        self.items.push_reserved(entry);
+        self.items.push_back_reserved(entry);
+    }
+
+    /// Takes the first entry.
+    pub fn take_first(&mut self) -> Option<Entry>
+        ensures list { MatchOption result ((self.old.list ≡ []) × (self.new.list ≡ [])) (λ entry. self.old.list ≡ entry ∷ self.new.list) }
+        ensures spare { self.old.spare ≤ self.new.spare }
+        ensures next { self.new.next ≡ self.old.next }
+    {
+        self.items.pop_front()
     }
 
     /// The number of the next unit: one more than the units that began.
@@ -74,6 +85,6 @@ impl Entries {
         ensures { result.items ≡ self.list }
     {
         let Entries { items, next: _ } = self;
-        items
+        items.into_vec()
     }
 }

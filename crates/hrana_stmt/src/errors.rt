@@ -2,7 +2,7 @@ ghost use Rattle.std.specs.Prelude.{◌≡◌, IfOk};
 ghost use Rattle.hrana_stmt.specs.Codes.{error_of};
 
 use crate::{Code, code_message, code_name};
-use hrana_value::{NoMemory, Txt};
+use hrana_value::{Duplicate, NoMemory, Txt};
 use std::alloc::Global;
 
 /// An error as it is sent.
@@ -10,6 +10,17 @@ use std::alloc::Global;
 pub struct WireError {
     pub message: Txt,
     pub code: Option<Txt>,
+}
+
+impl Duplicate for WireError {
+    fn copy(&self, alloc: Global) -> Result<WireError, NoMemory> {
+        let message = self.message.copy(alloc)?;
+        let code = match &self.code {
+            Some(code) => Some(code.copy(alloc)?),
+            None => None,
+        };
+        Ok(WireError { message, code })
+    }
 }
 
 /// The error of a code.

@@ -43,3 +43,14 @@ pub struct StmtResult {
     /// The row id of the last row that was inserted.
     pub last_rowid: Option<i64>,
 }
+
+impl Duplicate for StmtResult {
+    fn copy(&self, alloc: Global) -> Result<StmtResult, NoMemory> {
+        Ok(StmtResult {
+            cols: self.cols.copy(alloc)?,
+            rows: self.rows.copy(alloc)?,
+            affected: self.affected,
+            last_rowid: self.last_rowid,
+        })
+    }
+}

@@ -10,6 +10,8 @@ mod batons;
 #[cfg(test)]
 mod dialect;
 #[cfg(test)]
+mod journal;
+#[cfg(test)]
 mod keeper;
 #[cfg(test)]
 mod messages;

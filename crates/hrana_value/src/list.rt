@@ -85,3 +85,9 @@ impl<T: Duplicate> List<T> {
         Ok(List { items: copies })
     }
 }
+
+impl<T: Duplicate> Duplicate for List<T> {
+    fn copy(&self, alloc: Global) -> Result<List<T>, NoMemory> {
+        List::copy(self, alloc)
+    }
+}

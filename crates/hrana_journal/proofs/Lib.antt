@@ -1,0 +1,1 @@
+-- Which file proves which clause.
