@@ -62,14 +62,16 @@ module _ (kind : PieceKind) (bytes : List ℕ) (start end : ℕ) (stands : role_
   here = record { token = token kind bytes; start = start }
 
   pub takes_first : (so_far : ClassSoFar) → ((later : List Keyword) → class_with so_far later ≡ class_of_words (keyword_of kind bytes ∷ later)) → Takes found.Nothing kind bytes start (found.Open (record { start = start; end = end }) so_far)
-  takes_first so_far is spans c later gives =
-      (gives.0 ∙ spans-stands None here later stands ∙ ap (λ e. spans_from (Some (record { start = start; end = e })) later) (sym ends),
-       gives.1 ∙ ap class_of_words (words-stands here later false stands) ∙ sym (is (words_left true later)))
+  takes_first so_far is spans c later gives = (
+    gives.0 ∙ spans-stands None here later stands ∙ ap (λ e. spans_from (Some (record { start = start; end = e })) later) (sym ends),
+    gives.1 ∙ ap class_of_words (words-stands here later false stands) ∙ sym (is (words_left true later)),
+  )
 
   pub takes_next : (span : Span) (before so_far : ClassSoFar) → ((later : List Keyword) → class_with so_far later ≡ class_with before (keyword_of kind bytes ∷ later)) → Takes (found.Open span before) kind bytes start (found.Open (record { start = span.start; end = end }) so_far)
-  takes_next span before so_far is spans c later gives =
-      (gives.0 ∙ spans-stands (Some span) here later stands ∙ ap (λ e. spans_from (Some (record { start = span.start; end = e })) later) (sym ends),
-       gives.1 ∙ ap (class_with before) (words-stands here later true stands) ∙ sym (is (words_left true later)))
+  takes_next span before so_far is spans c later gives = (
+    gives.0 ∙ spans-stands (Some span) here later stands ∙ ap (λ e. spans_from (Some (record { start = span.start; end = e })) later) (sym ends),
+    gives.1 ∙ ap (class_with before) (words-stands here later true stands) ∙ sym (is (words_left true later)),
+  )
 
   pub takes_other : (span : Span) (class : Class) → Takes (found.One span class) kind bytes start found.Many
   takes_other span class spans c later gives =

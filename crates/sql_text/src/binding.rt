@@ -114,6 +114,13 @@ fn value_given<'a>(
     }
 }
 
+/// No values yet, and room for so many.
+fn room_for(alloc: Global, count: u16) -> Result<Values, NoMemory>
+    ensures { IfOk result (λ values. values ≡ []) }
+{
+    Ok(Values::from_vec(Vec::with_capacity(alloc, usize::from(count))?))
+}
+
 /// The values of numbered parameters, where a table has by number what named arguments gave.
 fn values_by(
     alloc: Global,
@@ -124,7 +131,7 @@ fn values_by(
     ensures { (named : List NamedArg) → HasLast parameters.now named table.now → AnswersAs result (or_missing (first_missing parameters.now args.now named) (values_of parameters.now args.now named)) }
 {
     let most = parameters.greatest();
-    let mut values = Values::new(alloc);
+    let mut values = room_for(alloc, most)?;
     for number in 1..most + 1 {
         let given = value_given(table, args, usize::from(number));
         values.push(value_of(alloc, parameters, given, number)?)?;

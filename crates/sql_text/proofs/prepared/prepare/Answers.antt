@@ -42,8 +42,8 @@ returns-clause-exact c =
     let values = bound_read c.in-Ok.scan.fit c.scan_pieces.new.parameters c.args.args.now c.args.named.now in
     subst (PreparesAs c.with_values.result)
     (ap (λ text. with_values text c.in-Ok-one_found.statement.class values) c.text_at.ensures
-        ∙ prepared-passed c.args.sql.now c.args.args.now c.args.named.now c.in-Ok.scan c.scan_pieces.new.parameters read c.in-Ok-one_found.statement
-        (c.in-Ok-one_found.ensures (spans_of c.args.sql.now) (class_of_text c.args.sql.now) read.found) (passes c))
+    ∙ prepared-passed c.args.sql.now c.args.args.now c.args.named.now c.in-Ok.scan c.scan_pieces.new.parameters read c.in-Ok-one_found.statement
+    (c.in-Ok-one_found.ensures (spans_of c.args.sql.now) (class_of_text c.args.sql.now) read.found) (passes c))
     (joined c)
 
 pub returns-clause-classed : goal.returns-clause-classed
@@ -51,7 +51,7 @@ returns-clause-classed c =
     let read = scanned (goal.at.returns-clause-classed c).In-Ok in
     classed_from c.text_at.result.now c.in-Ok-one_found.statement.class _ c.with_values.result
     (ap class_of_text c.text_at.ensures ∙ class_of_statement c.args.sql.now c.args.args.now c.args.named.now c.in-Ok.scan c.scan_pieces.new.parameters read c.in-Ok-one_found.statement
-        (c.in-Ok-one_found.ensures (spans_of c.args.sql.now) (class_of_text c.args.sql.now) read.found))
+    (c.in-Ok-one_found.ensures (spans_of c.args.sql.now) (class_of_text c.args.sql.now) read.found))
     (joined c)
 
 pub returns-clause-passed : goal.returns-clause-passed
