@@ -20,6 +20,7 @@ pub mod ClassLemmas
 pub mod SpanLemmas
 pub mod FoundLemmas
 pub mod ParameterLemmas
+pub mod UnnamedLemmas
 pub mod BindLemmas
 pub mod BoundaryLemmas
 pub mod BoundarySpans

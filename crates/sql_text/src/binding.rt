@@ -8,7 +8,8 @@ ghost use Rattle.sql_text.specs.Parameters.{has_number, greatest};
 ghost use Rattle.sql_text.specs.Binding.{number_met, first_missing, values_of, or_missing, bound_values, bound_read, parameters_of, bound, AnswersAs, ValueAs, HasLast};
 
 use crate::limits::MAX_PARAMETERS;
-use crate::parameters::{PLACES, Parameters};
+use crate::parameter_table::PLACES;
+use crate::parameters::Parameters;
 use crate::pieces::is_prefix;
 use crate::scan::scan_pieces;
 use hrana_stmt::NamedArg;

@@ -6,6 +6,7 @@ mod binding;
 mod class;
 mod class_words;
 mod limits;
+mod parameter_table;
 mod parameters;
 mod pieces;
 mod prepared;
