@@ -2,8 +2,8 @@
 use hrana_stmt::{NamedArg, NamedArgs};
 use hrana_value::{Txt, Value, Values};
 use sql_text::{
-    BindFail, Class, Mode, SplitFail, StatementFail, are_bound, bind, class_of, limits_are, split,
-    statement_of,
+    BindFail, Class, Mode, PrepareFail, Prepared, SplitFail, StatementFail, are_bound, bind,
+    class_of, limits_are, prepare, split, statement_of,
 };
 use std::alloc::Global;
 
@@ -195,4 +195,83 @@ fn arguments_that_stand_need_no_copy(rt: HostRuntime) {
     assert!(rt; are_bound("SELECT ?, :a", &two, &[]));
     assert!(rt; !are_bound("SELECT ?2, ?1, @a", &two, &[]));
     assert!(rt; !are_bound("SELECT ?, ? 'x", &two, &[]));
+}
+
+// What a text is prepared as with the integers from 1 to a number as its positional arguments.
+fn prepared_with(alloc: Global, sql: &str, count: i64) -> Result<Prepared, PrepareFail> {
+    let mut args = Values::new(alloc);
+    for number in 1..count + 1 {
+        args.push(Value::Integer(number))?;
+    }
+    prepare(alloc, sql, args.as_slice(), &[])
+}
+
+fn is_prepared(alloc: Global, sql: &str, count: i64, statement: &str, class: Class) -> bool {
+    let Ok(prepared) = prepared_with(alloc, sql, count) else {
+        return false;
+    };
+    let mut next = 1;
+    for value in prepared.values.as_slice() {
+        if !matches!(value, Value::Integer(number) if *number == next) {
+            return false;
+        }
+        next += 1;
+    }
+    next == count + 1 && prepared.class == class && prepared.sql.as_str() == statement
+}
+
+#[test]
+fn texts_are_prepared(rt: HostRuntime) {
+    for (sql, count, statement, class) in [
+        (
+            " ; INSERT INTO t VALUES (?, ?) -- ?",
+            2,
+            "INSERT INTO t VALUES (?, ?)",
+            Class::Write,
+        ),
+        ("/* é */SELECT ?3 ;;", 3, "SELECT ?3", Class::Read),
+        (
+            "BEGIN /* x */ IMMEDIATE;",
+            0,
+            "BEGIN /* x */ IMMEDIATE",
+            Class::Begin(Mode::Immediate),
+        ),
+        (
+            "begin transaction readonly",
+            0,
+            "begin transaction readonly",
+            Class::Begin(Mode::Deferred),
+        ),
+        ("END TRANSACTION;", 0, "END TRANSACTION", Class::Commit),
+        (";rollback", 0, "rollback", Class::Rollback),
+    ] {
+        assert!(rt;
+            is_prepared(rt.alloc(), sql, count, statement, class),
+            "{sql}"
+        );
+    }
+}
+
+#[test]
+fn texts_are_refused_in_order(rt: HostRuntime) {
+    for (sql, count, wanted) in [
+        (" ; /*", 1, PrepareFail::Unclosed { at: 3 }),
+        ("SAVEPOINT a; ? 'x", 0, PrepareFail::Unclosed { at: 15 }),
+        (" ;; -- ?", 1, PrepareFail::Empty),
+        ("SAVEPOINT a; PRAGMA ?0", 0, PrepareFail::Many),
+        ("SELECT 1;; SELECT ?;", 0, PrepareFail::Many),
+        ("ROLLBACK TO ?;", 0, PrepareFail::Savepoint),
+        ("COMMIT ?0", 0, PrepareFail::Barred),
+        ("PRAGMA x", 1, PrepareFail::Barred),
+        ("SELECT ?257", 0, PrepareFail::Args),
+        ("SELECT ?, ?", 3, PrepareFail::Args),
+        ("INSERT INTO t VALUES (?, ?)", 1, PrepareFail::Args),
+        ("BEGIN", 1, PrepareFail::Args),
+    ] {
+        assert_eq!(rt;
+            prepared_with(rt.alloc(), sql, count).err(),
+            Some(wanted),
+            "{sql}"
+        );
+    }
 }

@@ -1,5 +1,5 @@
 -- The parameters of a text and their numbers, off the list of its pieces.
-use Rattle.std.specs.Prelude.{◌≡◌, ◌==◌, ◌+◌, ◌-◌, ◌*◌, ◌≤◌, ℕ, max, nat_lt, nat_le, Bool, true, false, ◌&&◌, List, [], ◌∷◌, length, map, drop, slice_index, Option, Some, None, unwrap_or, if◌then◌else◌, All}
+use Rattle.std.specs.Prelude.{◌≡◌, ◌==◌, ◌+◌, ◌-◌, ◌*◌, ◌≤◌, ℕ, zero, suc, max, nat_lt, nat_le, Bool, true, false, ◌&&◌, List, [], ◌∷◌, length, map, drop, slice_index, Option, Some, None, unwrap_or, if◌then◌else◌, All}
 use Rattle.std.specs.List.{list_any}
 use Rattle.std.specs.Borrow.{Bor}
 use Rattle.std.specs.Str.{bytes_eq}
@@ -116,3 +116,17 @@ pub record IsKept (most : ℕ) (are_named : Bool) (texts : List (List ℕ)) : Ty
   pub is_greatest : most ≡ greatest (table_from 0 texts)
   pub past : table_from (most + 1) (drop (most + 1) texts) ≡ []
   pub unnamed : are_named ≡ false → All (λ p. p.prefix ≡ 63) (table_from 0 texts)
+
+-- so many `?` from some number on
+abbrev pub unnamed_from : ℕ → ℕ → List Numbered
+unnamed_from n zero = []
+unnamed_from n (suc count) = numbered n (63 ∷ []) ∷ unnamed_from (n + 1) count
+
+-- so many parameters that are a `?` and nothing else
+abbrev pub unnamed : ℕ → List Numbered
+unnamed count = unnamed_from 1 count
+
+-- the parameters in a table, or so many `?` where there is none
+abbrev pub listed : ℕ → Option (List Numbered) → List Numbered
+listed count None = unnamed count
+listed count (Some table) = table

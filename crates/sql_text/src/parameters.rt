@@ -1,30 +1,30 @@
 // The parameters of a text, numbered in its order.
-ghost use Rattle.std.specs.Prelude.{◌≡◌, ◌+◌, ◌<◌, ◌≤◌, [], List, min, length, IfSome};
+ghost use Rattle.std.specs.Prelude.{◌≡◌, ◌+◌, ◌<◌, ◌≤◌, ◌∷◌, [], ◌↔◌, List, min, length, IfSome, IsTrue};
 ghost use Rattle.std.specs.Bool.{OnTrue};
-ghost use Rattle.sql_text.specs.Parameters.{Numbered, greatest, has_number, number_of_name, is_name, digits_value, number_taken, with_parameter, with_number, fits, number_within, with_fitting, table_from, texts_of, IsKept};
+ghost use Rattle.sql_text.specs.Parameters.{Numbered, greatest, has_number, number_of_name, digits_value, number_taken, with_parameter, with_number, fits, number_within, with_fitting};
 
 use crate::limits::MAX_PARAMETERS;
+use crate::parameter_table::ParameterTable;
 use std::marker::Model;
 
-/// A place for each number, and one for 0.
-pub(crate) const PLACES: usize = MAX_PARAMETERS as usize + 1;
-
-/// The parameters of a text so far.
+/// The parameters of a text so far. Most texts have none but `?`, and need no table.
 #[derive(Drop)]
 pub struct Parameters<'a> {
-    /// By number, the text that came first with it, or nothing.
-    texts: [&'a [u8]; PLACES],
-    greatest: u16,
-    /// Whether any may have a name.
-    are_named: bool,
+    /// How many there are, where there is no table: each is a `?`.
+    unnamed: u16,
+    table: Option<ParameterTable<'a>>,
 }
 
 impl<'a> Model for Parameters<'a> {
+    ghost use Rattle.std.specs.Prelude.{◌≤◌, List};
+    ghost use Rattle.sql_text.specs.declared.limits.TheConstants.{MAX_PARAMETERS};
+    ghost use Rattle.sql_text.specs.Parameters.{Numbered, listed};
+
     ghost Value = { List Numbered };
 
-    ghost view = { λ p. table_from 0 (texts_of p.texts) };
+    ghost view = { λ p. listed p.unnamed p.table };
 
-    ghost invariant = { λ p. IsKept p.greatest p.are_named (texts_of p.texts) };
+    ghost invariant = { λ p. p.unnamed ≤ MAX_PARAMETERS };
 }
 
 /// The value of decimal digits, or one past the most where it is greater.
@@ -41,11 +41,11 @@ fn digits_value(digits: &[u8]) -> u16
     value
 }
 
-/// Whether a text, perhaps an empty one, is this name behind this sign.
-fn is_name(prefix: u8, name: &[u8], text: &[u8]) -> bool
-    ensures { result ≡ is_name prefix name.now text.now }
+/// Whether a parameter is a `?` and nothing else.
+fn is_unnamed(text: &[u8]) -> bool
+    ensures { IsTrue result ↔ text.now ≡ 63 ∷ [] }
 {
-    !text.is_empty() && text[0] == prefix && &text[1..] == name
+    text == b"?".as_slice()
 }
 
 impl<'a> Parameters<'a> {
@@ -53,9 +53,8 @@ impl<'a> Parameters<'a> {
         ensures { result ≡ [] }
     {
         Parameters {
-            texts: [&[]; PLACES],
-            greatest: 0,
-            are_named: false,
+            unnamed: 0,
+            table: None,
         }
     }
 
@@ -64,14 +63,20 @@ impl<'a> Parameters<'a> {
         ensures greatest { result ≡ greatest self.now }
         ensures small { result ≤ MAX_PARAMETERS }
     {
-        self.greatest
+        match &self.table {
+            Some(table) => table.greatest(),
+            None => self.unnamed,
+        }
     }
 
     pub(crate) fn has_number(&self, number: u16) -> bool
         requires { number ≤ MAX_PARAMETERS }
         ensures { result ≡ has_number self.now number }
     {
-        !self.texts[usize::from(number)].is_empty()
+        match &self.table {
+            Some(table) => table.has_number(number),
+            None => 0 < number && number <= self.unnamed,
+        }
     }
 
     /// The number of a name behind a sign.
@@ -80,15 +85,10 @@ impl<'a> Parameters<'a> {
         ensures number { result ≡ number_of_name prefix name.now self.now }
         ensures small { IfSome result (λ n. n ≤ MAX_PARAMETERS) }
     {
-        if !self.are_named {
-            return None;
+        match &self.table {
+            Some(table) => table.number_of_name(prefix, name),
+            None => None,
         }
-        for number in 0..self.greatest + 1 {
-            if is_name(prefix, name, self.texts[usize::from(number)]) {
-                return Some(number);
-            }
-        }
-        None
     }
 
     /// The number that a parameter takes after these, or one past the most where it is greater.
@@ -117,11 +117,17 @@ impl<'a> Parameters<'a> {
         requires some { 0 < length text.now }
         ensures { self.new ≡ with_number self.old number text.now }
     {
-        let place = usize::from(number);
-        if self.texts[place].is_empty() {
-            self.texts[place] = text;
-            self.greatest = self.greatest.max(number);
-            self.are_named = self.are_named | (text[0] != b'?');
+        match &mut self.table {
+            Some(table) => table.add(number, text),
+            None => {
+                if number == self.unnamed + 1 && is_unnamed(text) {
+                    self.unnamed = number;
+                } else {
+                    let mut table = ParameterTable::of_unnamed(self.unnamed);
+                    table.add(number, text);
+                    self.table = Some(table);
+                }
+            }
         }
     }
 }

@@ -1,7 +1,14 @@
-use Rattle.std.proofs.Common.{◌∙◌, ap, not}
+use Rattle.std.proofs.Common.{◌∙◌, ap}
 use Rattle.sql_text.specs.Parameters.{has_number}
-use Rattle.sql_text.proofs.ParameterLemmas.{table_has}
+use Rattle.sql_text.proofs.UnnamedLemmas.{has_number-unnamed, has_number-none, listed_none}
 use Rattle.sql_text.proofs.parameters.Parameters.has_number.Goals as goal
 
-pub returns : goal.returns
-returns c = ap not c.is_empty.ensures ∙ table_has c.self.inside.texts c.args.number c.from.result _ c.from.ensures c.self.told c.requires ∙ ap (λ ps. has_number ps c.args.number) c.self.view_is
+pub returns-then-number-gt0 : goal.returns-then-number-gt0
+returns-then-number-gt0 c =
+    has_number-unnamed c.self.inside.unnamed c.args.number c.if-number-gt0.true
+    ∙ ap (λ ps. has_number ps c.args.number) (listed_none c.self.inside.unnamed c.self.inside.table c.args.self.now c.in-None.is c.self.view_is)
+
+pub returns-else-number-gt0 : goal.returns-else-number-gt0
+returns-else-number-gt0 c =
+    has_number-none c.self.inside.unnamed c.args.number c.if-number-gt0.false
+    ∙ ap (λ ps. has_number ps c.args.number) (listed_none c.self.inside.unnamed c.self.inside.table c.args.self.now c.in-None.is c.self.view_is)
