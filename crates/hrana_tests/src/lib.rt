@@ -27,3 +27,5 @@ mod statements;
 mod turns;
 #[cfg(test)]
 mod values;
+#[cfg(test)]
+mod wire;
