@@ -1,5 +1,6 @@
 // What the bytes that are held come to.
 ghost use Rattle.std.specs.Prelude.{◌≡◌, ◌≤◌, length, take, IfOk};
+ghost use Rattle.httparse.specs.Grammar.{HasNoRequest};
 ghost use Rattle.http_wire.specs.Look.{Sees, IsHeadOf};
 
 use crate::limits::{MAX_FIELDS, MAX_HEAD_BYTES};
@@ -56,6 +57,18 @@ fn settle(alloc: Global, held: &[u8], count: usize, head: &Head) -> Result<Look,
     }
 }
 
+/// What follows from bytes whose head isn't whole.
+fn without_head(held: &[u8]) -> Look
+    requires { HasNoRequest (take MAX_HEAD_BYTES held.now) }
+    ensures { Sees held.now result }
+{
+    let is_full = held.len() >= MAX_HEAD_BYTES;
+    if is_full {
+        return Look::Refusal(WireFail::Bad400);
+    }
+    Look::Wait(held.len() + 1)
+}
+
 /// Reads the head, where it is whole; its body is only counted.
 pub fn look_at(alloc: Global, held: &[u8]) -> Result<Look, NoMemory>
     ensures { IfOk result (Sees held.now) }
@@ -65,6 +78,7 @@ pub fn look_at(alloc: Global, held: &[u8]) -> Result<Look, NoMemory>
     let mut request = Request::new(&mut fields);
     match request.parse(front) {
         Ok(Status::Complete(count)) => {
+            // Never so, but the parser's contract doesn't say it.
             if request.headers.len() > MAX_FIELDS {
                 return Ok(Look::Refusal(WireFail::Bad400));
             }
@@ -76,13 +90,7 @@ pub fn look_at(alloc: Global, held: &[u8]) -> Result<Look, NoMemory>
             };
             settle(alloc, held, count, &head)
         }
-        Ok(Status::Partial) => {
-            if held.len() < MAX_HEAD_BYTES {
-                Ok(Look::Wait(held.len() + 1))
-            } else {
-                Ok(Look::Refusal(WireFail::Bad400))
-            }
-        }
+        Ok(Status::Partial) => Ok(without_head(held)),
         Err(_) => Ok(Look::Refusal(WireFail::Bad400)),
     }
 }

@@ -24,22 +24,14 @@ settle-requires-clause-head c =
       },
     )
 
-pub returns-else-held-lt-MAX_HEAD_BYTES : goal.returns-else-held-lt-MAX_HEAD_BYTES
-returns-else-held-lt-MAX_HEAD_BYTES c =
+pub without_head-requires : goal.without_head-requires
+without_head-requires c =
     let none = rw c.in-Ok-Partial.field-0-is at c.in-Ok-Partial.ensures.partial in
-    (bad_is_no_memory, inr (refl, never_after_limit c.args.held.now (subst HasNoRequest c.front_of-front.ensures none) c.if-held-lt-MAX_HEAD_BYTES.false))
+    subst HasNoRequest c.front_of-front.ensures none
 
 pub returns-in-Err : goal.returns-in-Err
 returns-in-Err c =
     (bad_is_no_memory, inr (refl, never_after_refusal 16384 c.args.held.now (λ more h rest x. omega (arith, ap length c.new-request.ensures.room, c.in-Err.ensures.no_room more h rest (rw (← c.front_of-front.ensures) at x)))))
-
-pub returns-then-held-lt-MAX_HEAD_BYTES : goal.returns-then-held-lt-MAX_HEAD_BYTES
-returns-then-held-lt-MAX_HEAD_BYTES c =
-    let none = rw c.in-Ok-Partial.field-0-is at c.in-Ok-Partial.ensures.partial in
-    let below = c.if-held-lt-MAX_HEAD_BYTES.true in
-    let whole : c.front_of-front.result.now ≡ c.args.held.now = c.front_of-front.ensures ∙ take_all 16384 c.args.held.now (omega arith) in
-    let here = subst HasNoRequest whole none in
-    (waits_without_head c.args.held.now here below, waits_for_one c.args.held.now here below)
 
 pub settle-requires-clause-within : goal.settle-requires-clause-within
 settle-requires-clause-within c =
