@@ -92,7 +92,7 @@ fn refusals_come_in_their_order(rt: HostRuntime) -> Result<(), Fail> {
         ),
         (
             "POST /v3/pipeline HTTP/1.1\r\nHost: h\r\nContent-Length: 262144\r\n\r\n",
-            "66",
+            "63",
         ),
         (
             "POST /v3/pipeline HTTP/1.1\r\nHost: h\r\nExpect: 100-continue\r\n\r\n",
