@@ -50,7 +50,8 @@ fn given(alloc: Global, bytes: &[u8], cut: usize) -> Result<String, NoMemory> {
     Ok(all)
 }
 
-const UPGRADE: &str = "GET /any HTTP/1.1\r\nHost: h\r\nUpgrade: WebSocket\r\nConnection: keep-alive, Upgrade\r\nSec-WebSocket-Version: 13\r\nSec-WebSocket-Key: dGhlIHNhbXBsZSBub25jZQ==\r\nSec-WebSocket-Protocol: hrana2, hrana3\r\n\r\n";
+const UPGRADE: &str =
+    "GET /any HTTP/1.1\r\nHost: h\r\nUpgrade: WebSocket\r\nConnection: keep-alive, Upgrade\r\nSec-WebSocket-Version: 13\r\nSec-WebSocket-Key: dGhlIHNhbXBsZSBub25jZQ==\r\nSec-WebSocket-Protocol: hrana2, hrana3\r\n\r\n";
 
 #[test]
 fn every_cut_gives_the_same(rt: HostRuntime) -> Result<(), Fail> {
@@ -125,9 +126,10 @@ fn refusals_come_in_their_order(rt: HostRuntime) -> Result<(), Fail> {
     Ok(())
 }
 
-/// The head of an upgrade with one text in the place of another.
-fn changed(alloc: Global, old: &str, new: &str) -> Result<String, NoMemory> {
-    Ok(UPGRADE.replace(alloc, old, new)?)
+/// What the head of an upgrade gives with one text in the place of another.
+fn changed_gives(alloc: Global, old: &str, new: &str) -> Result<String, NoMemory> {
+    let text = UPGRADE.replace(alloc, old, new)?;
+    given(alloc, text.as_bytes(), 0)
 }
 
 #[test]
@@ -143,15 +145,24 @@ fn upgrades_are_good_bad_or_none(rt: HostRuntime) -> Result<(), Fail> {
         ("keep-alive, Upgrade", "keep-alive", "GET /any - 0 stay|0"),
     ];
     for (old, new, expected) in cases {
-        let text = changed(rt.alloc(), old, new)?;
-        let given = given(rt.alloc(), text.as_bytes(), 0)?;
+        let given = changed_gives(rt.alloc(), old, new)?;
         assert_eq!(rt; given.as_str(), expected, "{new}");
     }
-    let mut wire = Wire::new(rt.alloc())?;
-    let Ok(Fed::Upgrade(key, chosen)) = wire.feed(rt.alloc(), UPGRADE.as_bytes()) else {
-        return Err(Fail::new("no upgrade"));
-    };
-    let bytes = upgrade_bytes(rt.alloc(), &key, &chosen)?;
+    Ok(())
+}
+
+/// The answer to the upgrade, or nothing.
+fn switched(alloc: Global) -> Result<Bytes, NoMemory> {
+    let mut wire = Wire::new(alloc)?;
+    match wire.feed(alloc, UPGRADE.as_bytes()) {
+        Ok(Fed::Upgrade(key, chosen)) => upgrade_bytes(alloc, &key, &chosen),
+        _ => Bytes::new(alloc, b""),
+    }
+}
+
+#[test]
+fn an_upgrade_is_answered(rt: HostRuntime) -> Result<(), Fail> {
+    let bytes = switched(rt.alloc())?;
     assert_eq!(rt;
         bytes.as_slice(),
         b"HTTP/1.1 101 Switching Protocols\r\nUpgrade: websocket\r\nConnection: Upgrade\r\nSec-WebSocket-Accept: s3pPLMBiTxaQ9kYGzzhZRbK+xOo=\r\nSec-WebSocket-Protocol: hrana3\r\n\r\n".as_slice()
@@ -172,6 +183,12 @@ fn head_of(alloc: Global, fields: usize, bytes: usize) -> Result<Vec<u8>, NoMemo
     Ok(head)
 }
 
+/// What such a head gives, with its last bytes in a piece of their own.
+fn head_gives(alloc: Global, fields: usize, bytes: usize) -> Result<String, NoMemory> {
+    let head = head_of(alloc, fields, bytes)?;
+    given(alloc, head.as_slice(), 16_383)
+}
+
 #[test]
 fn heads_have_limits(rt: HostRuntime) -> Result<(), Fail> {
     limits_are();
@@ -182,11 +199,31 @@ fn heads_have_limits(rt: HostRuntime) -> Result<(), Fail> {
         (64, 16_385, "Bad400"),
     ];
     for (fields, bytes, expected) in cases {
-        let head = head_of(rt.alloc(), fields, bytes)?;
-        let given = given(rt.alloc(), head.as_slice(), 16_383)?;
-        assert_eq!(rt; given.as_str(), expected, "{fields} fields in {bytes} bytes");
+        let given = head_gives(rt.alloc(), fields, bytes)?;
+        assert_eq!(rt;
+            given.as_str(),
+            expected,
+            "{fields} fields in {bytes} bytes"
+        );
     }
     Ok(())
+}
+
+fn answered(
+    alloc: Global,
+    status: u16,
+    allow: Option<Allow>,
+    text: &str,
+    close: bool,
+) -> Result<Bytes, NoMemory> {
+    let body = Bytes::new(alloc, text.as_bytes())?;
+    let answer = HttpAnswer {
+        status,
+        allow,
+        body,
+        close,
+    };
+    answer_bytes(alloc, &answer)
 }
 
 #[test]
@@ -222,19 +259,17 @@ fn answers_have_their_bytes(rt: HostRuntime) -> Result<(), Fail> {
         ),
     ];
     for (status, allow, text, close, expected) in cases {
-        let body = Bytes::new(rt.alloc(), text.as_bytes())?;
-        let answer = HttpAnswer {
-            status,
-            allow,
-            body,
-            close,
-        };
-        let bytes = answer_bytes(rt.alloc(), &answer)?;
+        let bytes = answered(rt.alloc(), status, allow, text, close)?;
         assert_eq!(rt; bytes.as_slice(), expected.as_bytes());
     }
-    let gone = answer_bytes(rt.alloc(), &refusal(rt.alloc(), &WireFail::Expect417))?;
+    Ok(())
+}
+
+#[test]
+fn a_refusal_is_answered(rt: HostRuntime) -> Result<(), Fail> {
+    let bytes = answer_bytes(rt.alloc(), &refusal(rt.alloc(), &WireFail::Expect417))?;
     assert_eq!(rt;
-        gone.as_slice(),
+        bytes.as_slice(),
         b"HTTP/1.1 417 Expectation Failed\r\nContent-Type: application/json\r\nContent-Length: 0\r\nConnection: close\r\n\r\n".as_slice()
     );
     Ok(())

@@ -8,7 +8,8 @@ ghost use Rattle.http_wire.specs.Request.{method_of, has_bad_host, is_length, ha
 ghost use Rattle.http_wire.specs.Head.{read_of};
 
 use crate::fields::{
-    Comparison, any_lists, any_same, each_is, first_value, has_field, is_named, same_bytes, same_word,
+    Comparison, any_lists, any_same, each_is, first_value, has_field, is_named, same_bytes,
+    same_word,
 };
 use crate::limits::MAX_BODY_BYTES;
 use crate::{Chosen, HttpAsk, Key, Method, WireFail};
@@ -150,7 +151,12 @@ fn is_good_upgrade(head: &Head) -> bool
     has_field(head.fields, "sec-websocket-version")
         && each_is(head.fields, "sec-websocket-version", b"13")
         && has_key(head)
-        && any_lists(Comparison::Exact, head.fields, "sec-websocket-protocol", b"hrana3")
+        && any_lists(
+            Comparison::Exact,
+            head.fields,
+            "sec-websocket-protocol",
+            b"hrana3",
+        )
 }
 
 fn is_bad(head: &Head) -> bool
