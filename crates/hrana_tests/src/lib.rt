@@ -29,3 +29,5 @@ mod statements;
 mod turns;
 #[cfg(test)]
 mod values;
+#[cfg(test)]
+mod wire;
