@@ -1,5 +1,5 @@
 -- What a parser's answer on the front says of all that is held.
-use Rattle.std.proofs.Common.{◌≡◌, ◌≢◌, ℕ, zero, suc, ◌+◌, ◌-◌, ◌<◌, ◌≤◌, List, [], ◌∷◌, ◌++◌, length, take, drop, map, Result, Ok, Err, refl, sym, ap, ◌∙◌, subst, inl, inr, arith, append_assoc}
+use Rattle.std.proofs.Common.{◌≡◌, ◌≢◌, ℕ, zero, suc, ◌+◌, ◌-◌, ◌<◌, ◌≤◌, List, [], ◌∷◌, ◌++◌, length, take, drop, Ok, Err, refl, sym, ap, ◌∙◌, subst, inl, inr, arith, append_assoc}
 use Rattle.std.specs.Prelude.{Option, Some, option_copied}
 use Rattle.std.specs.Borrow.{Bor}
 use Rattle.std.proofs.lemmas.List.{append-nil, length-append, length-take, length-drop, length-map, take-append-drop, drop-drop, take_rest}
@@ -9,7 +9,6 @@ use Rattle.httparse.specs.declared.borrowed.Header.{Header}
 use Rattle.httparse.specs.Spans.{RequestOverflows, name_and_value}
 use Rattle.httparse.proofs.GrammarLemmas.{request_unique, ReadsRequest-append}
 use Rattle.http_wire.specs.declared.asks.HttpAsk.{HttpAsk}
-use Rattle.http_wire.specs.declared.asks.Fed.{Fed}
 use Rattle.http_wire.specs.declared.asks.Fed.TheVariants.{More, Ask, Upgrade}
 use Rattle.http_wire.specs.declared.asks.WireFail.{WireFail}
 use Rattle.http_wire.specs.declared.asks.WireFail.TheVariants.{Bad400, Expect417, Length411, TooLarge413, NoMemory}
@@ -17,7 +16,7 @@ use Rattle.http_wire.specs.declared.feeding.Stage.{Stage}
 use Rattle.http_wire.specs.declared.feeding.Stage.TheVariants.{Reading, Refused}
 use Rattle.http_wire.specs.declared.verdict.Verdict.TheVariants.{Refuse, Switch, Serve}
 use Rattle.http_wire.specs.Request.{Request, request_of, verdict_of, ask_of}
-use Rattle.http_wire.specs.Wire.{HasHead, NeverHasHead, IsAsk, IsRefused, Gives, MayWait, WaitsBelow, Held, FeedsAt, Feeds}
+use Rattle.http_wire.specs.Wire.{HasHead, NeverHasHead, IsAsk, IsRefused, MayWait, WaitsBelow, Held, FeedsAt, Feeds}
 use Rattle.http_wire.proofs.WireLemmas.{HasHead-append, HasHead_unique, NeverHasHead-append, never_now}
 
 -- a and then more is b and then rest, where b is no longer than a

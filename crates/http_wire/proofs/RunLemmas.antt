@@ -1,5 +1,5 @@
 -- Runs of calls, and the answer lists of whole byte lists.
-use Rattle.std.proofs.Common.{◌≡◌, ◌⊎◌, ℕ, zero, suc, ◌<◌, ◌≤◌, List, [], ◌∷◌, ◌++◌, length, Result, Ok, Err, refl, sym, ap, ◌∙◌, subst, inl, inr, arith, append_assoc}
+use Rattle.std.proofs.Common.{◌≡◌, ◌⊎◌, ℕ, zero, suc, ◌<◌, List, [], ◌∷◌, ◌++◌, length, Result, Ok, Err, refl, sym, ap, ◌∙◌, subst, inl, inr, arith, append_assoc}
 use Rattle.std.proofs.lemmas.List.{append-nil, length-append}
 use Rattle.httparse.specs.Grammar.{RequestHead, IsRequestHead, print_request}
 use Rattle.std.specs.Prelude.{⊤}
@@ -11,7 +11,7 @@ use Rattle.http_wire.specs.declared.asks.WireFail.{WireFail}
 use Rattle.http_wire.specs.declared.asks.WireFail.TheVariants.{Bad400, Expect417, Length411, TooLarge413, NoMemory}
 use Rattle.http_wire.specs.declared.feeding.Stage.{Stage}
 use Rattle.http_wire.specs.declared.feeding.Stage.TheVariants.{Reading, Upgraded, Refused}
-use Rattle.http_wire.specs.Wire.{NeverHasHead, IsAsk, IsUpgrade, IsRefused, Gives, GoesOn, Takes, Wire, MayWait, Held, Feeds, Call, Runs, bytes_of, told_by, CountsOnce, LeavesRest, start, AnyCut, IsFrontOf, BeginsWith, OneAnswerList, FrontsStay, NothingHeldBack, GivesAsks, NoneWithout}
+use Rattle.http_wire.specs.Wire.{NeverHasHead, IsAsk, IsUpgrade, IsRefused, Gives, GoesOn, Takes, Wire, MayWait, Held, Feeds, Call, Runs, bytes_of, told_by, CountsOnce, LeavesRest, AnyCut, IsFrontOf, BeginsWith, OneAnswerList, FrontsStay, NothingHeldBack, NoneWithout}
 use Rattle.http_wire.proofs.WireLemmas.{Gives_unique, Gives-append, IsAsk-append, IsUpgrade-append, IsRefused-append}
 
 abbrev pub Answer : Type 0
