@@ -159,10 +159,15 @@ sized_in_front held front count h cut reads sized =
     ap length reads.1 ∙ length-append (print_request h) (drop count front) in
     (omega (arith, ap length cut, length-take 16384 held), omega (arith, ap length cut, length-take 16384 held))
 
+pub joined_is : (new items piece bytes : List ℕ) (from : ℕ) → new ≡ items ++ piece → from ≤ length items → drop from items ≡ bytes
+    → drop from new ≡ bytes ++ piece
+joined_is new items piece bytes from grown within cut =
+    ap (drop from) grown ∙ drop_within from items piece within ∙ ap (λ l. l ++ piece) cut
+
 pub held_is : (whole new items piece bytes : List ℕ) (from : ℕ) → whole ≡ new → new ≡ items ++ piece → from ≤ length items
     → drop from items ≡ bytes → take (length whole - from) (drop from whole) ≡ bytes ++ piece
 held_is whole new items piece bytes from same grown within cut =
-    take_rest whole from ∙ ap (drop from) (same ∙ grown) ∙ drop_within from items piece within ∙ ap (λ l. l ++ piece) cut
+    take_rest whole from ∙ joined_is whole items piece bytes from (same ∙ grown) within cut
 
 pub copied : (o : Option (Bor (List ℕ))) (x : Bor (List ℕ)) (y : List ℕ) → o ≡ Some x → option_copied o ≡ Some y → x.now ≡ y
 copied o x y is same =
@@ -180,7 +185,8 @@ waits_now need bytes below waits =
 pub bad_is_no_memory : Bad400 ≢ NoMemory
 bad_is_no_memory e = cc
 
-pub feeds_refusal : (old new : Held) (piece : List ℕ) (fail : WireFail) → old.stage ≡ Reading → new.stage ≡ Refused fail → fail ≢ NoMemory
+pub feeds_refusal : (old new : Held) (piece : List ℕ) (fail : WireFail) → old.stage ≡ Reading
+    → new ≡ record { bytes = old.bytes ++ piece; stage = Refused fail } → fail ≢ NoMemory
     → IsRefused (old.bytes ++ piece) fail → Feeds old piece (Err fail) new
 feeds_refusal old new piece Bad400 reading refused other why =
     let P : Stage → Type 0 = λ stage. FeedsAt stage old piece (Err Bad400) new in subst P (sym reading) (refused, why)

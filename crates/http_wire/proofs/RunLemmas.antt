@@ -154,12 +154,12 @@ refused_runs (call ∷ calls) bytes fail end x =
 
 -- a call that is refused, and the calls after it
 refused_step : (calls : List Call) (bytes piece : List ℕ) (fail : WireFail) (next end : Held)
-    → (next.stage ≡ Refused fail) × IsRefused (bytes ++ piece) fail → Runs next calls end
+    → (next ≡ At (bytes ++ piece) (Refused fail)) × IsRefused (bytes ++ piece) fail → Runs next calls end
     → (rest : List ℕ) × AllByRecursion (λ answer. answer ≡ Err fail) (told_by calls)
     × Takes (bytes ++ (piece ++ bytes_of calls)) (Err fail ∷ []) rest × LeavesRest end.stage end.bytes rest
 refused_step calls bytes piece fail next end y x =
-    let P : Stage → Type 0 = λ stage. Runs (At next.bytes stage) calls end in
-    let later = refused_runs calls next.bytes fail end (subst P y.0 x) in
+    let P : Held → Type 0 = λ held. Runs held calls end in
+    let later = refused_runs calls (bytes ++ piece) fail end (subst P y.0 x) in
     let all = bytes ++ (piece ++ bytes_of calls) in
     let Q : Held → Type 0 = λ held. LeavesRest held.stage held.bytes all in
     let R : List ℕ → Type 0 = λ l. IsRefused l fail in

@@ -91,7 +91,7 @@ Reads old held (Ok More) new = (new ≡ record { bytes = held; stage = Reading }
 Reads old held (Ok (Ask ask)) new = (new.stage ≡ Reading) × IsAsk held ask new.bytes
 Reads old held (Ok (Upgrade key chosen)) new = (new.stage ≡ Upgraded) × IsUpgrade held key chosen new.bytes
 Reads old held (Err NoMemory) new = new ≡ old
-Reads old held (Err fail) new = (new.stage ≡ Refused fail) × IsRefused held fail
+Reads old held (Err fail) new = (new ≡ record { bytes = held; stage = Refused fail }) × IsRefused held fail
 
 -- after an upgrade a piece is kept
 abbrev pub Keeps : Held → List ℕ → Result Fed WireFail → Held → Type 0
