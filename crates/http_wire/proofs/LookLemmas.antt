@@ -1,5 +1,5 @@
 -- What a parser's answer on the front says of all that is held.
-use Rattle.std.proofs.Common.{◌≡◌, ◌≢◌, ℕ, zero, suc, ◌+◌, ◌-◌, ◌<◌, ◌≤◌, List, [], ◌∷◌, ◌++◌, length, take, drop, map, Result, Ok, Err, refl, sym, ap, ◌∙◌, subst, inl, inr, arith, append_assoc}
+use Rattle.std.proofs.Common.{◌≡◌, ◌≢◌, ℕ, zero, suc, ◌+◌, ◌-◌, ◌<◌, ◌≤◌, List, [], ◌∷◌, ◌++◌, length, take, drop, Ok, Err, refl, sym, ap, ◌∙◌, subst, inl, inr, arith, append_assoc}
 use Rattle.std.specs.Prelude.{Option, Some, option_copied}
 use Rattle.std.specs.Borrow.{Bor}
 use Rattle.std.proofs.lemmas.List.{append-nil, length-append, length-take, length-drop, length-map, take-append-drop, drop-drop, take_rest}
@@ -9,7 +9,6 @@ use Rattle.httparse.specs.declared.borrowed.Header.{Header}
 use Rattle.httparse.specs.Spans.{RequestOverflows, name_and_value}
 use Rattle.httparse.proofs.GrammarLemmas.{request_unique, ReadsRequest-append}
 use Rattle.http_wire.specs.declared.asks.HttpAsk.{HttpAsk}
-use Rattle.http_wire.specs.declared.asks.Fed.{Fed}
 use Rattle.http_wire.specs.declared.asks.Fed.TheVariants.{More, Ask, Upgrade}
 use Rattle.http_wire.specs.declared.asks.WireFail.{WireFail}
 use Rattle.http_wire.specs.declared.asks.WireFail.TheVariants.{Bad400, Expect417, Length411, TooLarge413, NoMemory}
@@ -17,7 +16,7 @@ use Rattle.http_wire.specs.declared.feeding.Stage.{Stage}
 use Rattle.http_wire.specs.declared.feeding.Stage.TheVariants.{Reading, Refused}
 use Rattle.http_wire.specs.declared.verdict.Verdict.TheVariants.{Refuse, Switch, Serve}
 use Rattle.http_wire.specs.Request.{Request, request_of, verdict_of, ask_of}
-use Rattle.http_wire.specs.Wire.{HasHead, NeverHasHead, IsAsk, IsRefused, Gives, MayWait, WaitsBelow, Held, FeedsAt, Feeds}
+use Rattle.http_wire.specs.Wire.{HasHead, NeverHasHead, IsAsk, IsRefused, MayWait, WaitsBelow, Held, FeedsAt, Feeds}
 use Rattle.http_wire.proofs.WireLemmas.{HasHead-append, HasHead_unique, NeverHasHead-append, never_now}
 
 -- a and then more is b and then rest, where b is no longer than a
@@ -160,10 +159,15 @@ sized_in_front held front count h cut reads sized =
     ap length reads.1 ∙ length-append (print_request h) (drop count front) in
     (omega (arith, ap length cut, length-take 16384 held), omega (arith, ap length cut, length-take 16384 held))
 
+pub joined_is : (new items piece bytes : List ℕ) (from : ℕ) → new ≡ items ++ piece → from ≤ length items → drop from items ≡ bytes
+    → drop from new ≡ bytes ++ piece
+joined_is new items piece bytes from grown within cut =
+    ap (drop from) grown ∙ drop_within from items piece within ∙ ap (λ l. l ++ piece) cut
+
 pub held_is : (whole new items piece bytes : List ℕ) (from : ℕ) → whole ≡ new → new ≡ items ++ piece → from ≤ length items
     → drop from items ≡ bytes → take (length whole - from) (drop from whole) ≡ bytes ++ piece
 held_is whole new items piece bytes from same grown within cut =
-    take_rest whole from ∙ ap (drop from) (same ∙ grown) ∙ drop_within from items piece within ∙ ap (λ l. l ++ piece) cut
+    take_rest whole from ∙ joined_is whole items piece bytes from (same ∙ grown) within cut
 
 pub copied : (o : Option (Bor (List ℕ))) (x : Bor (List ℕ)) (y : List ℕ) → o ≡ Some x → option_copied o ≡ Some y → x.now ≡ y
 copied o x y is same =
@@ -181,7 +185,8 @@ waits_now need bytes below waits =
 pub bad_is_no_memory : Bad400 ≢ NoMemory
 bad_is_no_memory e = cc
 
-pub feeds_refusal : (old new : Held) (piece : List ℕ) (fail : WireFail) → old.stage ≡ Reading → new.stage ≡ Refused fail → fail ≢ NoMemory
+pub feeds_refusal : (old new : Held) (piece : List ℕ) (fail : WireFail) → old.stage ≡ Reading
+    → new ≡ record { bytes = old.bytes ++ piece; stage = Refused fail } → fail ≢ NoMemory
     → IsRefused (old.bytes ++ piece) fail → Feeds old piece (Err fail) new
 feeds_refusal old new piece Bad400 reading refused other why =
     let P : Stage → Type 0 = λ stage. FeedsAt stage old piece (Err Bad400) new in subst P (sym reading) (refused, why)

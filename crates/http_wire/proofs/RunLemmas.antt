@@ -1,5 +1,5 @@
 -- Runs of calls, and the answer lists of whole byte lists.
-use Rattle.std.proofs.Common.{◌≡◌, ◌⊎◌, ℕ, zero, suc, ◌<◌, ◌≤◌, List, [], ◌∷◌, ◌++◌, length, Result, Ok, Err, refl, sym, ap, ◌∙◌, subst, inl, inr, arith, append_assoc}
+use Rattle.std.proofs.Common.{◌≡◌, ◌⊎◌, ℕ, zero, suc, ◌<◌, List, [], ◌∷◌, ◌++◌, length, Result, Ok, Err, refl, sym, ap, ◌∙◌, subst, inl, inr, arith, append_assoc}
 use Rattle.std.proofs.lemmas.List.{append-nil, length-append}
 use Rattle.httparse.specs.Grammar.{RequestHead, IsRequestHead, print_request}
 use Rattle.std.specs.Prelude.{⊤}
@@ -11,7 +11,7 @@ use Rattle.http_wire.specs.declared.asks.WireFail.{WireFail}
 use Rattle.http_wire.specs.declared.asks.WireFail.TheVariants.{Bad400, Expect417, Length411, TooLarge413, NoMemory}
 use Rattle.http_wire.specs.declared.feeding.Stage.{Stage}
 use Rattle.http_wire.specs.declared.feeding.Stage.TheVariants.{Reading, Upgraded, Refused}
-use Rattle.http_wire.specs.Wire.{NeverHasHead, IsAsk, IsUpgrade, IsRefused, Gives, GoesOn, Takes, Wire, MayWait, Held, Feeds, Call, Runs, bytes_of, told_by, CountsOnce, LeavesRest, start, AnyCut, IsFrontOf, BeginsWith, OneAnswerList, FrontsStay, NothingHeldBack, GivesAsks, NoneWithout}
+use Rattle.http_wire.specs.Wire.{NeverHasHead, IsAsk, IsUpgrade, IsRefused, Gives, GoesOn, Takes, WireMeans, MayWait, Held, Feeds, Call, Runs, bytes_of, told_by, CountsOnce, LeavesRest, AnyCut, IsFrontOf, BeginsWith, OneAnswerList, FrontsStay, NothingHeldBack, NoneWithout}
 use Rattle.http_wire.proofs.WireLemmas.{Gives_unique, Gives-append, IsAsk-append, IsUpgrade-append, IsRefused-append}
 
 abbrev pub Answer : Type 0
@@ -38,10 +38,10 @@ one_list bytes [] (b ∷ ys) r q x y = absurd (x.1 b y.0 y.1)
 one_list bytes (a ∷ xs) [] r q x y = absurd (y.1 a x.0 x.1)
 one_list bytes (a ∷ xs) (b ∷ ys) r q x y =
     let same = Gives_unique bytes a b x.0 y.0 x.1 y.1 in
-    let tail_y : GoesOn a (Wire x.0 ys q) ((ys ≡ []) × (q ≡ x.0)) =
-    subst (λ (p : Answer × List ℕ). GoesOn p.0 (Wire p.1 ys q) ((ys ≡ []) × (q ≡ p.1))) (λ i. (sym same.0 i, sym same.1 i)) y.2 in
+    let tail_y : GoesOn a (WireMeans x.0 ys q) ((ys ≡ []) × (q ≡ x.0)) =
+    subst (λ (p : Answer × List ℕ). GoesOn p.0 (WireMeans p.1 ys q) ((ys ≡ []) × (q ≡ p.1))) (λ i. (sym same.0 i, sym same.1 i)) y.2 in
     let tails : (xs ≡ ys) × (r ≡ q) =
-    GoesOn-both a (Wire x.0 xs r) (Wire x.0 ys q) ((xs ≡ []) × (r ≡ x.0)) ((ys ≡ []) × (q ≡ x.0)) ((xs ≡ ys) × (r ≡ q))
+    GoesOn-both a (WireMeans x.0 xs r) (WireMeans x.0 ys q) ((xs ≡ []) × (r ≡ x.0)) ((ys ≡ []) × (q ≡ x.0)) ((xs ≡ ys) × (r ≡ q))
     (λ u v. one_list x.0 xs ys r q u v) (λ u v. (u.0 ∙ sym v.0, u.1 ∙ sym v.1)) x.2 tail_y in
     let heads = same.0 in
     let rests = tails.0 in
@@ -59,18 +59,18 @@ answers_front bytes [] rest x all left y = (all, refl)
 answers_front bytes (a ∷ xs) rest x [] left y = absurd (y.1 a x.0 x.1)
 answers_front bytes (a ∷ xs) rest x (b ∷ ys) left y =
     let same = Gives_unique bytes a b x.0 y.0 x.1 y.1 in
-    let tail_y : GoesOn a (Wire x.0 ys left) ((ys ≡ []) × (left ≡ x.0)) =
-    subst (λ (p : Answer × List ℕ). GoesOn p.0 (Wire p.1 ys left) ((ys ≡ []) × (left ≡ p.1))) (λ i. (sym same.0 i, sym same.1 i)) y.2 in
+    let tail_y : GoesOn a (WireMeans x.0 ys left) ((ys ≡ []) × (left ≡ x.0)) =
+    subst (λ (p : Answer × List ℕ). GoesOn p.0 (WireMeans p.1 ys left) ((ys ≡ []) × (left ≡ p.1))) (λ i. (sym same.0 i, sym same.1 i)) y.2 in
     let tails : IsFrontOf xs ys =
-    GoesOn-both a (Takes x.0 xs rest) (Wire x.0 ys left) ((xs ≡ []) × (rest ≡ x.0)) ((ys ≡ []) × (left ≡ x.0)) (IsFrontOf xs ys)
+    GoesOn-both a (Takes x.0 xs rest) (WireMeans x.0 ys left) ((xs ≡ []) × (rest ≡ x.0)) ((ys ≡ []) × (left ≡ x.0)) (IsFrontOf xs ys)
     (λ u v. answers_front x.0 xs rest u ys left v) (λ u v. both_end xs ys u.0 v.0) x.2 tail_y in
     let P : Answer → Type 0 = λ b. IsFrontOf (a ∷ xs) (b ∷ ys) in
     subst P same.0 (longer a xs ys tails)
 
-pub Takes-from_Wire : (bytes : List ℕ) (xs : List Answer) (rest : List ℕ) → Wire bytes xs rest → Takes bytes xs rest
-Takes-from_Wire bytes [] rest x = x.0
-Takes-from_Wire bytes (a ∷ xs) rest x =
-    (x.0, x.1, GoesOn-map a (Wire x.0 xs rest) (Takes x.0 xs rest) ((xs ≡ []) × (rest ≡ x.0)) (Takes-from_Wire x.0 xs rest) x.2)
+pub Takes-from_WireMeans : (bytes : List ℕ) (xs : List Answer) (rest : List ℕ) → WireMeans bytes xs rest → Takes bytes xs rest
+Takes-from_WireMeans bytes [] rest x = x.0
+Takes-from_WireMeans bytes (a ∷ xs) rest x =
+    (x.0, x.1, GoesOn-map a (WireMeans x.0 xs rest) (Takes x.0 xs rest) ((xs ≡ []) × (rest ≡ x.0)) (Takes-from_WireMeans x.0 xs rest) x.2)
 
 GoesOn-both_ways : (a : Answer) (P Q R S : Type 0) → (P → Q) → (R → S) → GoesOn a P R → GoesOn a Q S
 GoesOn-both_ways (Ok More) P Q R S f g x = g x
@@ -89,7 +89,7 @@ Takes-append bytes (a ∷ xs) rest more x = (
 
 pub fronts_stay : FrontsStay
 fronts_stay front more a b r q x y =
-    answers_front (front ++ more) a (r ++ more) (Takes-append front a r more (Takes-from_Wire front a r x)) b q y
+    answers_front (front ++ more) a (r ++ more) (Takes-append front a r more (Takes-from_WireMeans front a r x)) b q y
 
 -- ---- runs
 
@@ -154,12 +154,12 @@ refused_runs (call ∷ calls) bytes fail end x =
 
 -- a call that is refused, and the calls after it
 refused_step : (calls : List Call) (bytes piece : List ℕ) (fail : WireFail) (next end : Held)
-    → (next.stage ≡ Refused fail) × IsRefused (bytes ++ piece) fail → Runs next calls end
+    → (next ≡ At (bytes ++ piece) (Refused fail)) × IsRefused (bytes ++ piece) fail → Runs next calls end
     → (rest : List ℕ) × AllByRecursion (λ answer. answer ≡ Err fail) (told_by calls)
     × Takes (bytes ++ (piece ++ bytes_of calls)) (Err fail ∷ []) rest × LeavesRest end.stage end.bytes rest
 refused_step calls bytes piece fail next end y x =
-    let P : Stage → Type 0 = λ stage. Runs (At next.bytes stage) calls end in
-    let later = refused_runs calls next.bytes fail end (subst P y.0 x) in
+    let P : Held → Type 0 = λ held. Runs held calls end in
+    let later = refused_runs calls (bytes ++ piece) fail end (subst P y.0 x) in
     let all = bytes ++ (piece ++ bytes_of calls) in
     let Q : Held → Type 0 = λ held. LeavesRest held.stage held.bytes all in
     let R : List ℕ → Type 0 = λ l. IsRefused l fail in
@@ -227,12 +227,12 @@ HeldBack given all rest = (all ≡ given) ⊎ ((all ≡ given ++ Err Bad400 ∷ 
 only_refusal : (bytes : List ℕ) (a : Answer) (after : List ℕ) → NeverHasHead bytes → Gives bytes a after → a ≡ Err Bad400
 only_refusal bytes a after never x = (Gives_unique bytes a (Err Bad400) after bytes x (inr (refl, never), refl)).0
 
-held_at_end : (bytes : List ℕ) (all : List Answer) (left : List ℕ) → MayWait bytes → Wire bytes all left → HeldBack [] all bytes
+held_at_end : (bytes : List ℕ) (all : List Answer) (left : List ℕ) → MayWait bytes → WireMeans bytes all left → HeldBack [] all bytes
 held_at_end bytes [] left waits y = inl refl
 held_at_end bytes (a ∷ xs) left waits y =
     let why = waits a y.0 y.1 in
     let bad = only_refusal bytes a y.0 why.0 y.1 in
-    let P : Answer → Type 0 = λ b. GoesOn b (Wire y.0 xs left) ((xs ≡ []) × (left ≡ y.0)) in
+    let P : Answer → Type 0 = λ b. GoesOn b (WireMeans y.0 xs left) ((xs ≡ []) × (left ≡ y.0)) in
     let none = (subst P bad y.2).0 in
     inr (cc, why.0, why.1)
 
@@ -248,9 +248,9 @@ nothing_held_back bytes [] all rest left x waits y asks =
 nothing_held_back bytes (a ∷ xs) [] rest left x waits y asks = absurd (y.1 a x.0 x.1)
 nothing_held_back bytes (a ∷ xs) (b ∷ ys) rest left x waits y asks =
     let same = Gives_unique bytes a b x.0 y.0 x.1 y.1 in
-    let tail_y : GoesOn a (Wire x.0 ys left) ((ys ≡ []) × (left ≡ x.0)) =
-    subst (λ (p : Answer × List ℕ). GoesOn p.0 (Wire p.1 ys left) ((ys ≡ []) × (left ≡ p.1))) (λ i. (sym same.0 i, sym same.1 i)) y.2 in
-    let wire = all_asks a (Wire x.0 ys left) ((ys ≡ []) × (left ≡ x.0)) asks.0 tail_y in
+    let tail_y : GoesOn a (WireMeans x.0 ys left) ((ys ≡ []) × (left ≡ x.0)) =
+    subst (λ (p : Answer × List ℕ). GoesOn p.0 (WireMeans p.1 ys left) ((ys ≡ []) × (left ≡ p.1))) (λ i. (sym same.0 i, sym same.1 i)) y.2 in
+    let wire = all_asks a (WireMeans x.0 ys left) ((ys ≡ []) × (left ≡ x.0)) asks.0 tail_y in
     let takes = all_asks a (Takes x.0 xs rest) ((xs ≡ []) × (rest ≡ x.0)) asks.0 x.2 in
     let later = one_more a xs ys rest (nothing_held_back x.0 xs ys rest left takes waits wire asks.1) in
     let P : Answer → Type 0 = λ c. HeldBack (a ∷ xs) (c ∷ ys) rest in
@@ -270,7 +270,7 @@ shorter bytes ask after x =
     omega (arith, ap length x.1.reads.1, length-append (print_request x.0) (ask.body ++ after), length-append ask.body after)
 
 abbrev HasNone : List ℕ → Type 0
-HasNone bytes = (answers : List Answer) (rest : List ℕ) → Wire bytes answers rest → ⊥
+HasNone bytes = (answers : List Answer) (rest : List ℕ) → WireMeans bytes answers rest → ⊥
 
 gives_nothing : (bytes : List ℕ) → HasNone bytes → ((ask : HttpAsk) (after : List ℕ) → IsAsk bytes ask after → HasNone after → ⊥)
     → (given : Answer) (after : List ℕ) → Gives bytes given after → ⊥

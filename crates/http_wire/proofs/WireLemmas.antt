@@ -1,8 +1,7 @@
 -- What bytes give is one thing, and stays however they go on.
-use Rattle.std.proofs.Common.{◌≡◌, ◌⊎◌, ℕ, zero, suc, ◌<◌, ◌≤◌, List, [], ◌∷◌, ◌++◌, length, Result, Ok, Err, refl, sym, ap, ◌∙◌, subst, inl, inr, arith, append_assoc, take, drop}
-use Rattle.std.proofs.lemmas.List.{append-nil, append_cancel_left, length-append}
-use Rattle.std.proofs.Math.Seq.{take-append_seam}
-use Rattle.httparse.specs.Grammar.{RequestHead, ReadsRequest, print_request}
+use Rattle.std.proofs.Common.{◌≡◌, ℕ, List, [], ◌∷◌, ◌++◌, length, Result, Ok, Err, refl, sym, ap, ◌∙◌, inl, inr, arith, append_assoc}
+use Rattle.std.proofs.lemmas.List.{append-nil}
+use Rattle.httparse.specs.Grammar.{RequestHead}
 use Rattle.httparse.proofs.GrammarLemmas.{request_unique, ReadsRequest-append}
 use Rattle.http_wire.specs.declared.asks.HttpAsk.{HttpAsk}
 use Rattle.http_wire.specs.declared.asks.Chosen.{Chosen}
@@ -10,7 +9,6 @@ use Rattle.http_wire.specs.declared.asks.Key.{Key}
 use Rattle.http_wire.specs.declared.asks.Fed.{Fed}
 use Rattle.http_wire.specs.declared.asks.Fed.TheVariants.{More, Ask, Upgrade}
 use Rattle.http_wire.specs.declared.asks.WireFail.{WireFail}
-use Rattle.http_wire.specs.declared.asks.WireFail.TheVariants.{Bad400}
 use Rattle.http_wire.specs.declared.verdict.Verdict.TheVariants.{Refuse, Switch, Serve}
 use Rattle.http_wire.specs.Request.{request_of, verdict_of, ask_of}
 use Rattle.http_wire.specs.Wire.{HasHead, NeverHasHead, IsAsk, IsUpgrade, IsRefused, Gives}

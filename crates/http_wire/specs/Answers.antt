@@ -1,5 +1,5 @@
 -- The bytes of answers (RFC 9112, section 4; RFC 9110, sections 10.2.1, 11.6.1 and 15; RFC 6455, section 4.2.2).
-use Rattle.std.specs.Prelude.{ℕ, ◌==◌, Bool, true, List, [], ◌∷◌, ◌++◌, length, codes, decimal, Option, Some, None, if◌then◌else◌}
+use Rattle.std.specs.Prelude.{ℕ, ◌==◌, Bool, true, List, [], ◌++◌, length, codes, decimal, Option, Some, None, if◌then◌else◌}
 use Rattle.base64.specs.Engines.{standard}
 use Rattle.base64.specs.GeneralPurpose.{encode_of}
 use Rattle.sha1.specs.Sha1.{sha1}

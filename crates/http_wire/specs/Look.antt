@@ -1,5 +1,5 @@
 -- What a look at the bytes that are held tells.
-use Rattle.std.specs.Prelude.{◌≡◌, ◌≢◌, ℕ, ◌<◌, ◌≤◌, List, length, drop}
+use Rattle.std.specs.Prelude.{◌≡◌, ◌≢◌, ℕ, ◌≤◌, List, length, drop}
 use Rattle.httparse.specs.Grammar.{RequestHead}
 use Rattle.http_wire.specs.declared.look.Look.{Look}
 use Rattle.http_wire.specs.declared.look.Look.TheVariants.{Wait, Found, Switched, Refusal}

@@ -1,5 +1,5 @@
 -- What the head of a request asks for (RFC 9110, RFC 9112, and section 4 of RFC 6455).
-use Rattle.std.specs.Prelude.{ℕ, ◌==◌, ◌≢◌, ◌≤◌, ⊤, nat_lt, nat_le, Bool, true, false, not, ◌&&◌, ◌||◌, List, [], ◌∷◌, length, take, drop, map, codes, Option, Some, None, option_map, unwrap_or, Result, Ok, Err, if◌then◌else◌, bytes_eq}
+use Rattle.std.specs.Prelude.{ℕ, ◌==◌, ◌≢◌, ◌≤◌, ⊤, nat_lt, nat_le, Bool, false, not, ◌&&◌, ◌||◌, List, [], length, take, drop, map, codes, Option, Some, None, option_map, unwrap_or, Result, Ok, Err, if◌then◌else◌, bytes_eq}
 use Rattle.std.specs.List.{count_by}
 use Rattle.std.specs.Str.{str_eq_ignore_ascii_case, all_ascii_digits, is_utf8}
 use Rattle.std.specs.Str.Parse.{digits_value}
@@ -11,10 +11,8 @@ use Rattle.httparse.specs.Spans.{name_and_value}
 use Rattle.http_wire.specs.declared.asks.Method.{Method}
 use Rattle.http_wire.specs.declared.asks.Method.TheVariants.{Get, Post, Other}
 use Rattle.http_wire.specs.declared.asks.HttpAsk.{HttpAsk}
-use Rattle.http_wire.specs.declared.asks.Chosen.{Chosen}
 use Rattle.http_wire.specs.declared.asks.Chosen.TheVariants.{Hrana3}
 use Rattle.http_wire.specs.declared.asks.Key.{Key}
-use Rattle.http_wire.specs.declared.asks.WireFail.{WireFail}
 use Rattle.http_wire.specs.declared.asks.WireFail.TheVariants.{Bad400, Expect417, Length411, TooLarge413, NoMemory}
 use Rattle.http_wire.specs.declared.verdict.Verdict.{Verdict}
 use Rattle.http_wire.specs.declared.verdict.Verdict.TheVariants.{Refuse, Switch, Serve}

@@ -63,13 +63,13 @@ Takes bytes (answer ∷ answers) rest =
     (after : List ℕ) × Gives bytes answer after
     × GoesOn answer (Takes after answers rest) ((answers ≡ []) × (rest ≡ after))
 
--- `Wire(bytes)`: all that the bytes give, the asks in order and then the upgrade or the refusal where one comes, and
+-- all that the bytes give, the asks in order and then the upgrade or the refusal where one comes, and
 -- the rest that is left
-abbrev pub Wire : List ℕ → List (Result Fed WireFail) → List ℕ → Type 0
-Wire bytes [] rest = (rest ≡ bytes) × ((given : Result Fed WireFail) (after : List ℕ) → Gives bytes given after → ⊥)
-Wire bytes (answer ∷ answers) rest =
+abbrev pub WireMeans : List ℕ → List (Result Fed WireFail) → List ℕ → Type 0
+WireMeans bytes [] rest = (rest ≡ bytes) × ((given : Result Fed WireFail) (after : List ℕ) → Gives bytes given after → ⊥)
+WireMeans bytes (answer ∷ answers) rest =
     (after : List ℕ) × Gives bytes answer after
-    × GoesOn answer (Wire after answers rest) ((answers ≡ []) × (rest ≡ after))
+    × GoesOn answer (WireMeans after answers rest) ((answers ≡ []) × (rest ≡ after))
 
 -- nothing has to be answered yet: what the bytes give, if they give anything, is the refusal of what can't become a
 -- head, before MAX_HEAD_BYTES are held
@@ -91,7 +91,7 @@ Reads old held (Ok More) new = (new ≡ record { bytes = held; stage = Reading }
 Reads old held (Ok (Ask ask)) new = (new.stage ≡ Reading) × IsAsk held ask new.bytes
 Reads old held (Ok (Upgrade key chosen)) new = (new.stage ≡ Upgraded) × IsUpgrade held key chosen new.bytes
 Reads old held (Err NoMemory) new = new ≡ old
-Reads old held (Err fail) new = (new.stage ≡ Refused fail) × IsRefused held fail
+Reads old held (Err fail) new = (new ≡ record { bytes = held; stage = Refused fail }) × IsRefused held fail
 
 -- after an upgrade a piece is kept
 abbrev pub Keeps : Held → List ℕ → Result Fed WireFail → Held → Type 0
@@ -163,7 +163,7 @@ IsFrontOf {A} front all = (more : List A) × (all ≡ front ++ more)
 
 -- all that the bytes give begins with the answers
 abbrev pub BeginsWith : List ℕ → List (Result Fed WireFail) → Type 0
-BeginsWith bytes given = (all : List (Result Fed WireFail)) (left : List ℕ) → Wire bytes all left → IsFrontOf given all
+BeginsWith bytes given = (all : List (Result Fed WireFail)) (left : List ℕ) → WireMeans bytes all left → IsFrontOf given all
 
 -- The calls of a run, however the bytes were cut: their answers are a front of what the joined bytes give, taken off them
 -- in order, and the wire holds what none of them took.
@@ -178,18 +178,18 @@ AnyCut =
 abbrev pub OneAnswerList : Type 0
 OneAnswerList =
     (bytes : List ℕ) (answers others : List (Result Fed WireFail)) (rest left : List ℕ)
-    → Wire bytes answers rest → Wire bytes others left → (answers ≡ others) × (rest ≡ left)
+    → WireMeans bytes answers rest → WireMeans bytes others left → (answers ≡ others) × (rest ≡ left)
 
 -- What a front gives, every continuation gives.
 abbrev pub FrontsStay : Type 0
 FrontsStay =
     (front more : List ℕ) (answers all : List (Result Fed WireFail)) (rest left : List ℕ)
-    → Wire front answers rest → Wire (front ++ more) all left → IsFrontOf answers all
+    → WireMeans front answers rest → WireMeans (front ++ more) all left → IsFrontOf answers all
 
 -- No bytes are without an answer list.
 abbrev pub NoneWithout : Type 0
 NoneWithout =
-    (bytes : List ℕ) → ((answers : List (Result Fed WireFail)) (rest : List ℕ) → Wire bytes answers rest → ⊥) → ⊥
+    (bytes : List ℕ) → ((answers : List (Result Fed WireFail)) (rest : List ℕ) → WireMeans bytes answers rest → ⊥) → ⊥
 
 -- the answers are asks
 abbrev pub GivesAsks : List (Result Fed WireFail) → Type 0
@@ -200,5 +200,5 @@ GivesAsks answers = AllByRecursion (λ answer. GoesOn answer ⊤ ⊥) answers
 abbrev pub NothingHeldBack : Type 0
 NothingHeldBack =
     (bytes : List ℕ) (given all : List (Result Fed WireFail)) (rest left : List ℕ)
-    → Takes bytes given rest → MayWait rest → Wire bytes all left → GivesAsks given
+    → Takes bytes given rest → MayWait rest → WireMeans bytes all left → GivesAsks given
     → (all ≡ given) ⊎ ((all ≡ given ++ Err Bad400 ∷ []) × NeverHasHead rest × (length rest < MAX_HEAD_BYTES))

@@ -1,7 +1,6 @@
-use Rattle.std.proofs.Common.{◌≡◌, ℕ, ◌<◌, ◌≤◌, List, length, drop, take, arith, sym, ap, ◌∙◌, inr, refl, subst}
-use Rattle.std.proofs.lemmas.List.{take_all}
+use Rattle.std.proofs.Common.{length, arith, ap, inr, refl, subst}
 use Rattle.httparse.specs.Grammar.{HasNoRequest}
-use Rattle.http_wire.proofs.LookLemmas.{bad_is_no_memory, waits_without_head, waits_for_one, same_count, many_in_front, head_in_front, sized_in_front, never_after_refusal, never_after_limit, copied, same_number}
+use Rattle.http_wire.proofs.LookLemmas.{bad_is_no_memory, same_count, many_in_front, head_in_front, sized_in_front, never_after_refusal, copied, same_number}
 use Rattle.http_wire.proofs.look.look_at.Goals as goal
 
 pub returns-then-request-gt-MAX_FIELDS : goal.returns-then-request-gt-MAX_FIELDS
