@@ -10,9 +10,7 @@ mod replies;
 mod reply_json;
 mod sending;
 
-pub use ask_json::{
-    ask_of_json, fitting_asks_are_read, no_members_are_two_asks, stored_of_json,
-};
+pub use ask_json::{ask_of_json, fitting_asks_are_read, no_members_are_two_asks, stored_of_json};
 pub use asks::{Ask, AskKind};
 pub use entries::{CursorEntry, EntryKind, EntryList};
 pub use entry_json::{
