@@ -1,16 +1,14 @@
 -- The words of a part as they come, and the parts of the list of pieces.
-use Rattle.std.proofs.Common.{◌≡◌, ◌≤◌, ℕ, Bool, true, false, cond, List, [], ◌∷◌, map, length, drop, refl, sym, ap, ◌∙◌}
+use Rattle.std.proofs.Common.{◌≡◌, ℕ, Bool, true, false, cond, List, [], ◌∷◌, map, refl, sym, ap, ◌∙◌}
 use Rattle.std.specs.Prelude.{filter, ◌==◌}
-use Rattle.std.proofs.lemmas.List.{drop_all}
 use Rattle.sql_text.specs.declared.pieces.PieceKind.{PieceKind}
 use Rattle.sql_text.specs.declared.pieces.PieceKind.TheVariants as kind
 use Rattle.sql_text.specs.declared.class.Keyword.{Keyword}
 use Rattle.sql_text.specs.declared.class.Role.TheVariants as role
 use Rattle.sql_text.specs.Pieces.{Token, token, pieces}
 use Rattle.sql_text.specs.Parts.{is_solid, with_front, cut, left, parts}
-use Rattle.sql_text.specs.Class.{keyword_of, keyword_of_token, first_part, class_of_words, class_of_text}
-use Rattle.sql_text.specs.Words.{words, words_by, role_of}
-use Rattle.sql_text.proofs.PieceLists.{pieces-nil}
+use Rattle.sql_text.specs.Class.{keyword_of_token, first_part, class_of_words, class_of_text}
+use Rattle.sql_text.specs.Words.{words, words_by}
 
 abbrev kind_of_token : Token → PieceKind
 kind_of_token t = t.kind
@@ -88,23 +86,3 @@ words-first (t ∷ tokens) = first-step t.kind t.bytes tokens (words-begun token
 pub class_of_text-words : (sql : List ℕ) → class_of_text sql ≡ class_of_words (words false (pieces sql))
 unfolding class_of_text
 class_of_text-words sql = ap class_of_words (sym (words-first (pieces sql)))
-
--- the words at a piece
-pub words-piece : (begun : Bool) (tokens : List Token) (k : PieceKind) (bytes : List ℕ) (rest : List Token) → tokens ≡ token k bytes ∷ rest → words begun tokens ≡ words_by (role_of k) begun (keyword_of k bytes) (words begun rest) (words true rest)
-unfolding words
-words-piece begun tokens k bytes rest is = ap (words begun) is
-
--- nothing is left at the end
-pub words-end : (begun : Bool) (text : List ℕ) (at : ℕ) → length text ≤ at → words begun (pieces (drop at text)) ≡ []
-unfolding words
-words-end begun text at past = ap (λ bytes. words begun (pieces bytes)) (drop_all at text past) ∙ ap (words begun) pieces-nil
-
--- a cut ends the part that was begun
-pub words_by-cut_begun : (begun : Bool) (word : Keyword) (same next : List Keyword) → begun ≡ true → words_by role.Cuts begun word same next ≡ []
-words_by-cut_begun true word same next is = refl
-words_by-cut_begun false word same next is = cc is
-
--- a cut before the first part is passed over
-pub words_by-cut_before : (begun : Bool) (word : Keyword) (same next : List Keyword) → begun ≡ false → words_by role.Cuts begun word same next ≡ same
-words_by-cut_before true word same next is = cc is
-words_by-cut_before false word same next is = refl

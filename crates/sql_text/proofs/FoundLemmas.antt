@@ -1,5 +1,5 @@
 -- What the pieces of a text so far say of its statements, piece by piece.
-use Rattle.std.proofs.Common.{◌≡◌, ◌≤◌, ◌<◌, ◌+◌, ℕ, Bool, true, false, List, [], ◌∷◌, map, length, drop, Option, Some, None, refl, sym, ap, ◌∙◌, subst, arith}
+use Rattle.std.proofs.Common.{◌≡◌, ◌≤◌, ◌<◌, ◌+◌, ℕ, Bool, true, false, List, [], ◌∷◌, map, length, drop, Some, None, refl, sym, ap, ◌∙◌, subst, arith}
 use Rattle.std.specs.Prelude.{slice_range}
 use Rattle.sql_text.specs.declared.pieces.PieceKind.{PieceKind}
 use Rattle.sql_text.specs.declared.class.Class.{Class}
@@ -12,7 +12,7 @@ use Rattle.sql_text.specs.declared.scan.Found.TheVariants as found
 use Rattle.sql_text.specs.Pieces.{Token, token, pieces}
 use Rattle.sql_text.specs.Class.{keyword_of, keyword_of_token, class_of_words, class_of_text}
 use Rattle.sql_text.specs.Words.{words, words_by, role_of}
-use Rattle.sql_text.specs.Spans.{Placed, placed, end_of, kind_of, span_of, spans_of, resume, spans_from, cuts, grown}
+use Rattle.sql_text.specs.Spans.{Placed, placed, end_of, kind_of, spans_of, resume, spans_from, cuts, grown}
 use Rattle.sql_text.specs.Found.{class_with, words_left, Gives, Takes, ended}
 use Rattle.sql_text.proofs.ClassLemmas.{class_of_text-words}
 use Rattle.sql_text.proofs.SpanLemmas.{spans-skipped, spans-cuts, spans-stands, spans_of-start, from_place, from_place-end, from_place-piece}
@@ -42,13 +42,13 @@ module _ (p : Placed) (later : List Placed) where
   gives_skipped found.Nothing spans c is gives = (gives.0 ∙ spans-skipped None p later is, gives.1 ∙ ap class_of_words (words-skipped false is))
   gives_skipped (found.Open span so_far) spans c is gives = (gives.0 ∙ spans-skipped (Some span) p later is, gives.1 ∙ ap (class_with so_far) (words-skipped true is))
   gives_skipped (found.One span class) spans c is gives = (gives.0 ∙ ap (λ more. span ∷ more) (spans-skipped None p later is), gives.1)
-  gives_skipped found.Many spans c is gives = gives
+  gives_skipped (found.Many class) spans c is gives = gives
 
   gives_cut : (f : Found) (spans : List Span) (c : Class) → role_of (kind_of p) ≡ role.Cuts → Gives f spans c (p ∷ later) → Gives (ended f) spans c later
   gives_cut found.Nothing spans c is gives = (gives.0 ∙ spans-cuts None p later is, gives.1 ∙ ap class_of_words (words-cut_before is))
   gives_cut (found.Open span so_far) spans c is gives = (gives.0 ∙ spans-cuts (Some span) p later is, gives.1 ∙ ap (class_with so_far) (words-cut_begun is))
   gives_cut (found.One span class) spans c is gives = (gives.0 ∙ ap (λ more. span ∷ more) (spans-cuts None p later is), gives.1)
-  gives_cut found.Many spans c is gives = gives
+  gives_cut (found.Many class) spans c is gives = gives
 
   some_more : (span : Span) (parts : List (List Placed)) → 1 ≤ length (resume (Some span) parts)
   some_more span [] = omega arith
@@ -73,12 +73,12 @@ module _ (kind : PieceKind) (bytes : List ℕ) (start end : ℕ) (stands : role_
     gives.1 ∙ ap (class_with before) (words-stands here later true stands) ∙ sym (is (words_left true later)),
   )
 
-  pub takes_other : (span : Span) (class : Class) → Takes (found.One span class) kind bytes start found.Many
+  pub takes_other : (span : Span) (class : Class) → Takes (found.One span class) kind bytes start (found.Many class)
   takes_other span class spans c later gives =
-      many_by here later span (grown None start (end_of here)) spans (gives.0 ∙ ap (λ more. span ∷ more) (spans-stands None here later stands))
+      (many_by here later span (grown None start (end_of here)) spans (gives.0 ∙ ap (λ more. span ∷ more) (spans-stands None here later stands)), gives.1)
 
-  pub takes_more : Takes found.Many kind bytes start found.Many
-  takes_more spans c later gives = gives
+  pub takes_more : (class : Class) → Takes (found.Many class) kind bytes start (found.Many class)
+  takes_more class spans c later gives = gives
 
 pub takes_skipped : (f : Found) (kind : PieceKind) (bytes : List ℕ) (start : ℕ) → role_of kind ≡ role.Skipped → Takes f kind bytes start f
 takes_skipped f kind bytes start is spans c later gives = gives_skipped (record { token = token kind bytes; start = start }) later f spans c is gives
@@ -114,6 +114,6 @@ takes_from before f after kind bytes start same takes spans c later gives =
 pub gives_same : (before f : Found) (spans : List Span) (c : Class) (later : List Placed) → before ≡ f → Gives before spans c later → Gives f spans c later
 gives_same before f spans c later same gives = subst (λ g. Gives g spans c later) same gives
 
-pub words-none : words_left true [] ≡ []
+pub words-none : (begun : Bool) → words_left begun [] ≡ []
 unfolding words
-words-none = refl
+words-none begun = refl

@@ -1,5 +1,5 @@
 -- What a text is prepared as, by what was read of it.
-use Rattle.std.proofs.Common.{◌≡◌, ◌≤◌, ℕ, List, [], ◌∷◌, length, Option, Some, None, Ok, Err, refl, sym, ap, ap₂, ◌∙◌, subst, arith}
+use Rattle.std.proofs.Common.{◌≡◌, ◌≤◌, ℕ, List, [], ◌∷◌, length, Option, Some, None, Ok, Err, refl, sym, ap, ap₂, ◌∙◌, arith}
 use Rattle.std.specs.Prelude.{Result, IfOk, slice_range}
 use Rattle.hrana_value.specs.declared.value.Value.{Value}
 use Rattle.hrana_stmt.specs.declared.statements.NamedArg.{NamedArg}
@@ -12,7 +12,7 @@ use Rattle.sql_text.specs.declared.prepared.PrepareFail.{PrepareFail}
 use Rattle.sql_text.specs.declared.prepared.PrepareFail.TheVariants as fail
 use Rattle.sql_text.specs.declared.prepared.Statement.{Statement}
 use Rattle.sql_text.specs.Parameters.{Numbered}
-use Rattle.sql_text.specs.Binding.{bound, bound_read, AnswersAs}
+use Rattle.sql_text.specs.Binding.{bound_read}
 use Rattle.sql_text.specs.Class.{class_of_text}
 use Rattle.sql_text.specs.Spans.{spans_of, unclosed_at}
 use Rattle.sql_text.specs.Statements.{ReadsAsItsText}

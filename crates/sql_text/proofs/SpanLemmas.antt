@@ -1,6 +1,6 @@
 -- The spans of a text, piece by piece.
-use Rattle.std.proofs.Common.{◌≡◌, ◌<◌, ◌≤◌, ◌+◌, ◌-◌, ℕ, Bool, true, false, cond, List, [], ◌∷◌, ◌++◌, map, length, take, drop, Option, Some, None, refl, sym, ap, ◌∙◌, subst, arith, append_assoc}
-use Rattle.std.specs.Prelude.{filter, ◌==◌, slice_range, All}
+use Rattle.std.proofs.Common.{◌≡◌, ◌<◌, ◌≤◌, ◌+◌, ◌-◌, ℕ, Bool, true, false, cond, List, [], ◌∷◌, ◌++◌, length, take, drop, Option, Some, None, refl, sym, ap, ◌∙◌, subst, arith, append_assoc}
+use Rattle.std.specs.Prelude.{◌==◌, slice_range, All}
 use Rattle.std.proofs.lemmas.List.Elements.{All-nil, All-cons}
 use Rattle.std.proofs.lemmas.Bool.{cond-true, cond-false}
 use Rattle.std.proofs.lemmas.List.{drop_all, length-take-le, length-drop, length-append, drop_at, take_at}
@@ -10,9 +10,9 @@ use Rattle.sql_text.specs.declared.class.Role.{Role}
 use Rattle.sql_text.specs.declared.class.Role.TheVariants as role
 use Rattle.sql_text.specs.declared.spans.Span.{Span}
 use Rattle.sql_text.specs.Pieces.{Token, token, pieces, joined, ArePieces, EachIsFirst}
-use Rattle.sql_text.specs.Parts.{is_solid, is_cut, with_front, cut, left}
+use Rattle.sql_text.specs.Parts.{is_solid, is_cut, with_front, cut}
 use Rattle.sql_text.specs.Words.{role_of}
-use Rattle.sql_text.specs.Spans.{Placed, placed, end_of, kind_of, last_end, span_of, spans_of, first_unclosed, unclosed_at, AreInOrder, grown, closed_span, EachPieceIsItsSlice, solid, cuts, resume, spans_from}
+use Rattle.sql_text.specs.Spans.{Placed, placed, end_of, kind_of, spans_of, first_unclosed, unclosed_at, AreInOrder, grown, closed_span, EachPieceIsItsSlice, solid, cuts, resume, spans_from}
 use Rattle.sql_text.proofs.PieceLists.{pieces-nil, each_text_has_one_list}
 
 -- what a role says of a kind

@@ -1,7 +1,7 @@
 -- Parameters that are a `?` and nothing else.
 use Rattle.std.proofs.Common.{◌≡◌, ◌<◌, ◌≤◌, ◌+◌, ℕ, suc, zero, max, Bool, true, false, List, [], ◌∷◌, Option, None, refl, sym, ap, ◌∙◌, arith}
-use Rattle.std.specs.Prelude.{All, nat_lt, nat_le, ◌==◌, ◌||◌, ◌&&◌}
-use Rattle.std.proofs.lemmas.Bool.{cond-true, cond-false, or_from, or_left, le-ltb, eq-eqb, ne_eqb, leb-true, leb-false}
+use Rattle.std.specs.Prelude.{All, nat_lt, nat_le, ◌==◌, ◌||◌}
+use Rattle.std.proofs.lemmas.Bool.{cond-false, or_from, le-ltb, ne_eqb, leb-true, leb-false}
 use Rattle.std.proofs.lemmas.Bool.Decides.{nat_tests}
 use Rattle.std.proofs.lemmas.List.Elements.{All-nil, All-cons}
 use Rattle.sql_text.specs.Parameters.{Numbered, greatest_from, greatest, has_number, numbered, inserted, with_number, unnamed_from, unnamed, listed}

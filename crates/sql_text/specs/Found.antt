@@ -29,12 +29,12 @@ class_with (so_far.Settled c) words = c
 abbrev pub words_left : Bool → List Placed → List Keyword
 words_left begun left = words begun (map (λ p. p.token) left)
 
--- with the pieces that are left, what was found so far gives these spans, and this class where there is one span
+-- with the pieces that are left, what was found so far gives these spans, and this class of the first
 abbrev pub Gives : Found → List Span → Class → List Placed → Type 0
 Gives found.Nothing spans c left = (spans ≡ spans_from None left) × (c ≡ class_of_words (words_left false left))
 Gives (found.Open span so_far) spans c left = (spans ≡ spans_from (Some span) left) × (c ≡ class_with so_far (words_left true left))
 Gives (found.One span class) spans c left = (spans ≡ span ∷ spans_from None left) × (c ≡ class)
-Gives found.Many spans c left = 2 ≤ length spans
+Gives (found.Many class) spans c left = (2 ≤ length spans) × (c ≡ class)
 
 -- what was found before a piece is found with it
 abbrev pub Takes : Found → PieceKind → List ℕ → ℕ → Found → Type 0

@@ -1,5 +1,5 @@
 -- The words of a part as they come, piece by piece.
-use Rattle.std.specs.Prelude.{◌==◌, Bool, true, false, List, [], ◌∷◌, Option, Some, None, if◌then◌else◌}
+use Rattle.std.specs.Prelude.{◌==◌, Bool, true, false, List, [], ◌∷◌, if◌then◌else◌}
 use Rattle.sql_text.specs.declared.pieces.PieceKind.{PieceKind}
 use Rattle.sql_text.specs.declared.pieces.PieceKind.TheVariants as kind
 use Rattle.sql_text.specs.declared.class.Keyword.{Keyword}
@@ -27,7 +27,3 @@ words_by role.Stands begun word same next = word ∷ next
 unfoldable pub words : Bool → List Token → List Keyword
 words begun [] = []
 words begun (token ∷ tokens) = words_by (role_of token.kind) begun (keyword_of_token token) (words begun tokens) (words true tokens)
-
-abbrev pub word_then : Option Keyword → List Keyword → List Keyword
-word_then None later = []
-word_then (Some word) later = word ∷ later

@@ -1,11 +1,9 @@
-// The class of a statement, by its first words.
-ghost use Rattle.std.specs.Prelude.{◌≡◌, ◌≤◌, length, drop, true, false, List, ◌∷◌};
-ghost use Rattle.sql_text.specs.Class.{is_word, transaction_keyword, statement_keyword, or_keyword, keyword_of, alone, perhaps_transaction, transaction_begun, begun, rolled_to, rolled, class_of_words, class_of_text};
-ghost use Rattle.sql_text.specs.Pieces.{pieces};
-ghost use Rattle.sql_text.specs.Words.{words, word_then, role_of};
-ghost use Rattle.sql_text.specs.declared.class.Keyword.{Keyword};
+// The classes of statements, and the words that decide them.
+ghost use Rattle.std.specs.Prelude.{◌≡◌};
+ghost use Rattle.sql_text.specs.Class.{is_word, transaction_keyword, statement_keyword, or_keyword, keyword_of};
+ghost use Rattle.sql_text.specs.Words.{role_of};
 
-use crate::pieces::{PieceKind, piece_at};
+use crate::pieces::PieceKind;
 
 /// How a transaction begins.
 #[derive(Clone, Copy, Debug, PartialEq, Eq)]
@@ -58,13 +56,6 @@ pub(crate) enum Role {
     Skipped,
     Cuts,
     Stands,
-}
-
-/// The next word of a part, if there is one, and the place behind it.
-#[derive(Clone, Copy)]
-struct NextWord {
-    word: Option<Keyword>,
-    end: usize,
 }
 
 fn is_word(word: &[u8], name: &str) -> bool
@@ -162,148 +153,5 @@ pub(crate) fn role_of(kind: PieceKind) -> Role
             }
         }
         _ => Role::Stands,
-    }
-}
-
-/// The next word of the part that was begun, or of the first part that has one.
-fn next_word(begun: bool, text: &[u8], from: usize) -> NextWord
-    ensures { words begun (pieces (drop from text.now)) ≡ word_then result.word (words true (pieces (drop result.end text.now))) }
-{
-    let mut at = from;
-    while at < text.len() {
-        let piece = piece_at(text, at);
-        match role_of(piece.kind) {
-            Role::Skipped => {}
-            Role::Cuts => {
-                if begun {
-                    return NextWord {
-                        word: None,
-                        end: piece.end,
-                    };
-                }
-            }
-            Role::Stands => {
-                return NextWord {
-                    word: Some(keyword_of(piece.kind, &text[at..piece.end])),
-                    end: piece.end,
-                };
-            }
-        }
-        at = piece.end;
-    }
-    NextWord {
-        word: None,
-        end: at,
-    }
-}
-
-/// A class, where nothing follows.
-fn alone(class: Class, text: &[u8], from: usize) -> Class
-    ensures { result ≡ alone class (words true (pieces (drop from text.now))) }
-{
-    match next_word(true, text, from).word {
-        None => class,
-        Some(_) => Class::Barred,
-    }
-}
-
-/// A class, where nothing follows but perhaps `TRANSACTION`.
-fn perhaps_transaction(class: Class, text: &[u8], from: usize) -> Class
-    ensures { result ≡ perhaps_transaction class (words true (pieces (drop from text.now))) }
-{
-    let next = next_word(true, text, from);
-    match next.word {
-        None => class,
-        Some(Keyword::Transaction) => alone(class, text, next.end),
-        Some(_) => Class::Barred,
-    }
-}
-
-/// What follows `BEGIN TRANSACTION`.
-fn transaction_begun(text: &[u8], from: usize) -> Class
-    ensures { result ≡ transaction_begun (words true (pieces (drop from text.now))) }
-{
-    let next = next_word(true, text, from);
-    match next.word {
-        None => Class::Begin(Mode::Deferred),
-        Some(Keyword::Readonly) => alone(Class::Begin(Mode::Deferred), text, next.end),
-        Some(_) => Class::Barred,
-    }
-}
-
-/// What follows `BEGIN`.
-fn begun(text: &[u8], from: usize) -> Class
-    ensures { result ≡ begun (words true (pieces (drop from text.now))) }
-{
-    let next = next_word(true, text, from);
-    match next.word {
-        None => Class::Begin(Mode::Deferred),
-        Some(Keyword::Transaction) => transaction_begun(text, next.end),
-        Some(Keyword::Deferred) => {
-            perhaps_transaction(Class::Begin(Mode::Deferred), text, next.end)
-        }
-        Some(Keyword::Immediate) => {
-            perhaps_transaction(Class::Begin(Mode::Immediate), text, next.end)
-        }
-        Some(Keyword::Exclusive) => {
-            perhaps_transaction(Class::Begin(Mode::Immediate), text, next.end)
-        }
-        Some(_) => Class::Barred,
-    }
-}
-
-/// What follows `ROLLBACK`, perhaps `TRANSACTION`.
-fn rolled_to(word: Option<Keyword>) -> Class
-    ensures { (later : List Keyword) → result ≡ rolled_to (word_then word later) }
-{
-    match word {
-        None => Class::Rollback,
-        Some(Keyword::To) => Class::Savepoint,
-        Some(_) => Class::Barred,
-    }
-}
-
-/// What follows `ROLLBACK`.
-fn rolled(text: &[u8], from: usize) -> Class
-    ensures { result ≡ rolled (words true (pieces (drop from text.now))) }
-{
-    let next = next_word(true, text, from);
-    match next.word {
-        Some(Keyword::Transaction) => rolled_to(next_word(true, text, next.end).word),
-        word => rolled_to(word),
-    }
-}
-
-/// The class of a part by its first word, whose words go on at a place.
-fn class_of_word(word: Keyword, text: &[u8], from: usize) -> Class
-    ensures { result ≡ class_of_words (word ∷ words true (pieces (drop from text.now))) }
-{
-    match word {
-        Keyword::Begin => begun(text, from),
-        Keyword::Commit => perhaps_transaction(Class::Commit, text, from),
-        Keyword::End => perhaps_transaction(Class::Commit, text, from),
-        Keyword::Rollback => rolled(text, from),
-        Keyword::Savepoint => Class::Savepoint,
-        Keyword::Release => Class::Savepoint,
-        Keyword::Pragma => Class::Barred,
-        Keyword::Attach => Class::Barred,
-        Keyword::Detach => Class::Barred,
-        Keyword::Vacuum => Class::Barred,
-        Keyword::Select => Class::Read,
-        Keyword::Values => Class::Read,
-        Keyword::With => Class::Read,
-        _ => Class::Write,
-    }
-}
-
-/// The class of a text. It takes no memory.
-pub fn class_of(sql: &str) -> Class
-    ensures { result ≡ class_of_text sql.now }
-{
-    let text = sql.as_bytes();
-    let next = next_word(false, text, 0);
-    match next.word {
-        None => Class::Empty,
-        Some(word) => class_of_word(word, text, next.end),
     }
 }

@@ -15,13 +15,14 @@ mod spans;
 mod statements;
 
 pub use binding::{BindFail, are_bound, bind};
-pub use class::{Class, Mode, class_of};
+pub use class::{Class, Mode};
 pub use limits::{MAX_PARAMETERS, limits_are};
 pub use parameters::{Parameters, next_parameter};
 pub use pieces::{
     Piece, PieceKind, PlacedPiece, each_text_has_one_list_of_pieces, first_piece, piece_at,
 };
 pub use prepared::{PrepareFail, Prepared, prepare};
+pub use scan::class_of;
 pub use spans::{Span, SplitFail, each_piece_is_its_slice, split};
 pub use statements::{
     StatementFail, each_run_has_its_pieces, each_statement_reads_as_its_text, statement_of,

@@ -90,7 +90,7 @@ fn one_found(found: Found) -> Result<Statement, PrepareFail>
             Ok(Statement { span, class })
         }
         Found::One(span, class) => Ok(Statement { span, class }),
-        Found::Many => Err(PrepareFail::Many),
+        Found::Many(_) => Err(PrepareFail::Many),
     }
 }
 

@@ -1,12 +1,13 @@
 // What the pieces of a text say of its statements and parameters, in one pass.
-ghost use Rattle.std.specs.Prelude.{◌≡◌, ◌+◌, ℕ, List, [], ◌∷◌, Some, length, IfOk, IfErr};
+ghost use Rattle.std.specs.Prelude.{◌≡◌, ◌+◌, ℕ, List, [], ◌∷◌, Some, length, IfOk, IfErr, IfSome};
 ghost use Rattle.sql_text.specs.declared.spans.Span.{Span};
 ghost use Rattle.sql_text.specs.declared.class.Class.{Class};
 ghost use Rattle.sql_text.specs.declared.class.Role.TheVariants.{Stands};
 ghost use Rattle.sql_text.specs.Words.{role_of};
-ghost use Rattle.sql_text.specs.Spans.{unclosed_at};
+ghost use Rattle.sql_text.specs.Spans.{Placed, unclosed_at};
 ghost use Rattle.sql_text.specs.Parameters.{is_parameter};
-ghost use Rattle.sql_text.specs.Found.{ended, Takes, IsScanOf};
+ghost use Rattle.sql_text.specs.Class.{class_of_text};
+ghost use Rattle.sql_text.specs.Found.{ended, Gives, Takes, IsScanOf};
 
 use crate::class::{Class, Role, role_of};
 use crate::class_words::{ClassSoFar, class_here, first_piece_read, next_piece_read};
@@ -22,7 +23,8 @@ pub(crate) enum Found {
     Open(Span, ClassSoFar),
     /// The first has ended, and nothing stands behind it.
     One(Span, Class),
-    Many,
+    /// There are two or more. The first has this class.
+    Many(Class),
 }
 
 /// What the pieces of a text say, all of which are closed.
@@ -74,8 +76,8 @@ fn with_standing(found: Found, start: usize, piece: PlacedPiece, bytes: &[u8]) -
                 next_piece_read(so_far, piece.kind, bytes),
             )
         }
-        Found::One(_, _) => Found::Many,
-        Found::Many => Found::Many,
+        Found::One(_, class) => Found::Many(class),
+        Found::Many(class) => Found::Many(class),
     }
 }
 
@@ -116,4 +118,46 @@ pub(crate) fn scan_pieces<'a>(
         at = piece.end;
     }
     Ok(Scan { found, fit })
+}
+
+/// The class of the first statement, where the pieces to come can't change it.
+fn class_known(found: Found) -> Option<Class>
+    ensures { (spans : List Span) (class : Class) (later : List Placed) → Gives found spans class later → IfSome result (λ known. class ≡ known) }
+{
+    match found {
+        Found::Open(_, ClassSoFar::Settled(class)) => Some(class),
+        Found::One(_, class) => Some(class),
+        Found::Many(class) => Some(class),
+        _ => None,
+    }
+}
+
+/// The class of the first statement of a text that ends here.
+fn class_at_end(found: Found) -> Class
+    ensures { (spans : List Span) (class : Class) → Gives found spans class [] → class ≡ result }
+{
+    match found {
+        Found::Nothing => Class::Empty,
+        Found::Open(_, so_far) => class_here(so_far),
+        Found::One(_, class) => class,
+        Found::Many(class) => class,
+    }
+}
+
+/// The class of a text. It takes no memory.
+pub fn class_of(sql: &str) -> Class
+    ensures { result ≡ class_of_text sql.now }
+{
+    let text = sql.as_bytes();
+    let mut found = Found::Nothing;
+    let mut at = 0;
+    while at < text.len() {
+        let piece = piece_at(text, at);
+        found = with_piece(found, at, piece, &text[at..piece.end]);
+        if let Some(class) = class_known(found) {
+            return class;
+        }
+        at = piece.end;
+    }
+    class_at_end(found)
 }
