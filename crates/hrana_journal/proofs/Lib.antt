@@ -1,1 +1,3 @@
--- Which file proves which clause.
+-- Which file proves which clause; clauses that aren't here are proved with no file.
+--   line_of: the events of an entry's members    entry_text/send_alone, send_began, send_ran, send_stale, send_held, send_ended, send_failed: Answers
+--   line_of: the kinds with owned parts          entry_text/send_entry/Answers

@@ -234,7 +234,10 @@ fn listed_notes_fail(rt: HostRuntime) -> Result<(), Fail> {
 
 fn add(entries: &mut Entries, unit: u64) -> Result<(), NoMemory> {
     entries.reserve(1)?;
-    entries.push(ended(unit, How::Read));
+    entries.push(Entry::Ended {
+        unit,
+        how: How::Read,
+    });
     Ok(())
 }
 
