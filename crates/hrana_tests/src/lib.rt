@@ -1,10 +1,8 @@
-//! Tests of the public calls of the crates below, as tables. What the contracts say is proved where it stands, so these
-//! are of what no clause says: that calls succeed where there is memory, texts that come from outside, and what goes on
-//! after a failure.
+//! Tests of the public calls of engines, keepers, streams and the program, as tables. What the contracts say is proved
+//! where it stands, so these are of what no clause says: that calls succeed where there is memory, texts that come from
+//! outside, and what goes on after a failure.
 #![tactic(auto)]
 
-#[cfg(test)]
-mod batches;
 #[cfg(test)]
 mod batons;
 #[cfg(test)]
@@ -14,20 +12,8 @@ mod journal;
 #[cfg(test)]
 mod keeper;
 #[cfg(test)]
-mod messages;
-#[cfg(test)]
 mod outside;
 #[cfg(test)]
 mod replay;
 #[cfg(test)]
-mod requests;
-#[cfg(test)]
-mod sql_texts;
-#[cfg(test)]
-mod statements;
-#[cfg(test)]
 mod turns;
-#[cfg(test)]
-mod values;
-#[cfg(test)]
-mod wire;
