@@ -3,9 +3,11 @@
 #![tactic(auto)]
 
 mod ask_json;
+mod ask_names;
 mod asks;
 mod entries;
 mod entry_json;
+mod json_texts;
 mod replies;
 mod reply_json;
 mod sending;
@@ -13,12 +15,14 @@ mod sending;
 pub use ask_json::{
     ask_of_json, fitting_asks_are_read, no_members_are_two_asks, stored_of_json,
 };
+pub use ask_names::{ASK_KINDS, ask_kind_name, ask_kind_of_name, ask_kinds_differ};
 pub use asks::{Ask, AskKind};
 pub use entries::{CursorEntry, EntryKind, EntryList};
 pub use entry_json::{
     ENTRY_KINDS, entries_are_read, entries_of_json, entry_kinds_differ, entry_of_json,
     no_tree_is_two_entries,
 };
+pub use json_texts::json_of_bytes;
 pub use replies::Reply;
 pub use reply_json::{no_members_are_two_replies, replies_are_read, reply_of_json};
 pub use sending::{ask_member_count, reply_member_count, send_ask, send_reply};
