@@ -4,4 +4,6 @@ pub mod Entries
 pub mod EntryParts
 pub mod JsonTexts
 pub mod Replies
+pub mod Results
 pub mod WrittenEntries
+pub mod WrittenResults

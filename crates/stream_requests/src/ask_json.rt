@@ -12,8 +12,8 @@ use crate::{Ask, AskKind};
 use hrana_batch::{batch_of_json, fitting_batches_are_read, no_tree_is_two_batches};
 use hrana_stmt::{MAX_SQL_BYTES, sql_of_json, stmt_of_json};
 use hrana_value::{
-    Decline, ReadFail, Txt, both_readings, int32_of_json, member_or_null, members,
-    text_of_json, uint32_of_json,
+    Decline, ReadFail, Txt, both_readings, int32_of_json, member_or_null, members, text_of_json,
+    uint32_of_json,
 };
 use serde_json::Value as Json;
 use std::alloc::Global;

@@ -13,9 +13,8 @@ ghost use Rattle.stream_requests.specs.declared.entries.EntryKind.{EntryKind};
 use crate::{CursorEntry, EntryKind, EntryList};
 use hrana_stmt::error_of_json;
 use hrana_value::{
-    Decline, JsonForm, ReadFail, both_readings, index_of, list_of_json,
-    member_or_null, members, optional_int64_text_of_json, text_member, uint32_of_json,
-    uint64_of_json,
+    Decline, JsonForm, ReadFail, both_readings, index_of, list_of_json, member_or_null, members,
+    optional_int64_text_of_json, text_member, uint32_of_json, uint64_of_json,
 };
 use serde_json::Value as Json;
 use std::alloc::Global;

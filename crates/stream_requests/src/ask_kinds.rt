@@ -1,10 +1,12 @@
-// The names of the kinds of asks.
+// The kinds of asks: their names, and that of an ask or a reply.
 ghost use Rattle.std.specs.Prelude.{◌≡◌, MatchOption, map};
 ghost use Rattle.hrana_value.specs.Names.{RowsDiffer};
 ghost use Rattle.stream_requests.specs.AskNames.{ask_name};
+ghost use Rattle.stream_requests.specs.Asks.{ask_kind};
+ghost use Rattle.stream_requests.specs.Replies.{answered_kind};
 ghost use Rattle.stream_requests.specs.declared.asks.AskKind.{AskKind};
 
-use crate::AskKind;
+use crate::{Ask, AskKind, Reply};
 use hrana_value::{index_of, name};
 
 /// The `type` of each kind of ask, in the order of `AskKind`.
@@ -64,3 +66,44 @@ pub fn ask_kind_name(kind: AskKind) -> &'static str
 pub fn ask_kinds_differ()
     ensures { RowsDiffer (map (λ row. row.now) ASK_KINDS) }
 {}
+
+impl Ask {
+    pub fn kind(&self) -> AskKind
+        ensures { result ≡ ask_kind self.now }
+    {
+        match self {
+            Ask::Execute(_) => AskKind::Execute,
+            Ask::Batch(_) => AskKind::Batch,
+            Ask::Sequence(_) => AskKind::Sequence,
+            Ask::Cursor(_) => AskKind::Cursor,
+            Ask::Fetch(_) => AskKind::Fetch,
+            Ask::CloseCursor => AskKind::CloseCursor,
+            Ask::GetAutocommit => AskKind::GetAutocommit,
+            Ask::StoreSql { .. } => AskKind::StoreSql,
+            Ask::CloseSql(_) => AskKind::CloseSql,
+            Ask::Close => AskKind::Close,
+        }
+    }
+}
+
+impl Reply {
+    /// The kind of ask that this replies to. The opening of a stream replies to none, and a failure to any.
+    pub fn answered_kind(&self) -> Option<AskKind>
+        ensures { result ≡ answered_kind self.now }
+    {
+        match self {
+            Reply::StreamOpened => None,
+            Reply::Execute(_) => Some(AskKind::Execute),
+            Reply::Batch(_) => Some(AskKind::Batch),
+            Reply::Sequence => Some(AskKind::Sequence),
+            Reply::Cursor => Some(AskKind::Cursor),
+            Reply::Fetched { .. } => Some(AskKind::Fetch),
+            Reply::CursorClosed => Some(AskKind::CloseCursor),
+            Reply::Autocommit(_) => Some(AskKind::GetAutocommit),
+            Reply::SqlStored => Some(AskKind::StoreSql),
+            Reply::SqlClosed => Some(AskKind::CloseSql),
+            Reply::Closed => Some(AskKind::Close),
+            Reply::Failed(_) => None,
+        }
+    }
+}
