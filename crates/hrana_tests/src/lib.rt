@@ -16,6 +16,8 @@ mod messages;
 #[cfg(test)]
 mod outside;
 #[cfg(test)]
+mod pipelines;
+#[cfg(test)]
 mod replay;
 #[cfg(test)]
 mod requests;
