@@ -17,7 +17,7 @@ use Rattle.hrana_stmt.proofs.ResultReadings.{StmtResultTree-one, StmtResultTree-
 use Rattle.hrana_batch.specs.declared.outcomes.Outcome.{Outcome}
 use Rattle.hrana_batch.specs.declared.outcomes.Outcome.TheVariants.{Skipped, Done, Failed}
 use Rattle.hrana_batch.specs.declared.outcomes.BatchResult.{BatchResult}
-use Rattle.hrana_batch.specs.Tree.{result_of, error_in, ResultEntryTree, ErrorEntryTree, BothGiven, PartsClash, BatchResultTree, NoTreeIsTwoBatchResults, BatchResultsAreRead}
+use Rattle.hrana_batch.specs.Tree.{result_of, error_in, ResultEntryTree, ErrorEntryTree, BothGiven, PartsClash, NoTreeIsTwoBatchResults, BatchResultsAreRead}
 use Rattle.hrana_stmt.specs.Written.{result_data, error_data}
 use Rattle.hrana_batch.specs.Written.{result_entry, error_entry}
 

@@ -10,7 +10,7 @@ ghost use Rattle.hrana_batch.specs.Tree.{CondTree, StepTree, BatchTree, ResultEn
 ghost use Rattle.hrana_batch.specs.Written.{cond_data, type_member, step_cond, step_data, batch_data, result_entry, error_entry, batch_result_object, batch_result_data};
 
 use crate::{Batch, BatchResult, Cond, Outcome, Step};
-use hrana_value::{JsonText, send_uint64};
+use hrana_value::{JsonText, end_with_text, send_text_member, send_uint64};
 use serde::Serializer;
 use std::alloc::Global;
 
@@ -24,19 +24,14 @@ fn send_step<S: Serializer>(kind: &str, step: u32, out: &mut S) -> Result<(), S:
     out.begin_map(Some(2))?;
     out.key("step")?;
     send_uint64(u64::from(step), out)?;
-    out.key("type")?;
-    out.str(kind)?;
-    out.end_map()
+    end_with_text("type", kind, out)
 }
 
 fn send_kind<S: Serializer>(kind: &str, out: &mut S) -> Result<(), S::Error>
     ensures sends { OnOk result (SendsValue (object (type_member kind.now)) (S.written out.old) (S.written out.new)) }
     ensures whole { OnOk result (IsWhole (object (type_member kind.now))) }
 {
-    out.begin_map(Some(1))?;
-    out.key("type")?;
-    out.str(kind)?;
-    out.end_map()
+    send_text_member("type", kind, out)
 }
 
 /// Sends a condition with its members in byte order.
@@ -53,25 +48,19 @@ pub fn send_cond<S: Serializer>(cond: &Cond, out: &mut S) -> Result<(), S::Error
             out.begin_map(Some(2))?;
             out.key("cond")?;
             send_cond(part.get(), out)?;
-            out.key("type")?;
-            out.str("not")?;
-            out.end_map()
+            end_with_text("type", "not", out)
         }
         Cond::All(parts) => {
             out.begin_map(Some(2))?;
             out.key("conds")?;
             send_conds(parts.as_slice(), out)?;
-            out.key("type")?;
-            out.str("and")?;
-            out.end_map()
+            end_with_text("type", "and", out)
         }
         Cond::Any(parts) => {
             out.begin_map(Some(2))?;
             out.key("conds")?;
             send_conds(parts.as_slice(), out)?;
-            out.key("type")?;
-            out.str("or")?;
-            out.end_map()
+            end_with_text("type", "or", out)
         }
         Cond::Autocommit => send_kind("is_autocommit", out),
     }

@@ -6,7 +6,9 @@ ghost use Rattle.std.specs.Prelude.{◌≡◌, IfOk};
 ghost use Rattle.hrana_stmt.specs.Written.{error_data};
 
 use crate::WireError;
-use hrana_value::{NoMemory, ReadFail, both_readings, json_of, members, option_of_json, text_of_json};
+use hrana_value::{
+    NoMemory, ReadFail, both_readings, json_of, members, option_of_json, text_of_json,
+};
 use serde_json::Value as Json;
 use std::alloc::Global;
 

@@ -1,23 +1,34 @@
 // The members of asks, and cursor entries, by their tables. `messages` has the replies.
-use hrana_value::{Decline, ReadFail};
-use serde_json::{Map, Value as Json};
+use hrana_value::{Decline, ReadFail, text_of};
+use serde::{Described, Serialize, Serializer};
+use serde_json::Value as Json;
 use std::alloc::Global;
-use stream_requests::{AskKind, ask_of_json, entries_of_json, entries_to_json, put_ask};
+use stream_requests::{Ask, AskKind, ask_member_count, ask_of_json, entries_of_json, send_ask};
+
+// The members of an ask as an object of their own.
+#[derive(Drop)]
+struct Members {
+    alloc: Global,
+    ask: Ask,
+}
+
+impl Described for Members {}
+
+impl Serialize for Members {
+    fn serialize<S: Serializer>(&self, out: &mut S) -> Result<(), S::Error> {
+        out.begin_map(Some(ask_member_count(&self.ask)))?;
+        send_ask(self.alloc, &self.ask, out)?;
+        out.end_map()
+    }
+}
 
 // The members of an ask of this kind, written again.
 fn ask(alloc: Global, kind: AskKind, text: &str) -> Result<String, ReadFail> {
     let Ok(json) = Json::from_str(alloc, text) else {
         return Err(ReadFail::NoMemory);
     };
-    let read = ask_of_json(alloc, kind, &json)?;
-    let mut members = Map::new(alloc);
-    if put_ask(&mut members, alloc, &read).is_err() {
-        return Err(ReadFail::NoMemory);
-    }
-    match Json::Object(members).to_string(alloc) {
-        Ok(text) => Ok(text),
-        Err(_) => Err(ReadFail::NoMemory),
-    }
+    let ask = ask_of_json(alloc, kind, &json)?;
+    serde_json::to_string(alloc, &Members { alloc, ask }).map_err(|_| ReadFail::NoMemory)
 }
 
 // The entries of a text, written again.
@@ -26,14 +37,8 @@ fn entries(alloc: Global, text: &str) -> Result<String, ReadFail> {
         return Err(ReadFail::NoMemory);
     };
     let read = entries_of_json(alloc, &json)?;
-    let written = match entries_to_json(alloc, read.as_slice()) {
-        Ok(written) => written.to_string(alloc),
-        Err(_) => return Err(ReadFail::NoMemory),
-    };
-    match written {
-        Ok(text) => Ok(text),
-        Err(_) => Err(ReadFail::NoMemory),
-    }
+    let written = text_of(alloc, &read)?;
+    String::from_str(alloc, written.as_str()).map_err(|_| ReadFail::NoMemory)
 }
 
 #[test]

@@ -1,8 +1,7 @@
 // Values.
 use hrana_value::{
     Bytes, Decline, NoMemory, ReadFail, Txt, Value, Values, index_of, int32, int64_of_text,
-    option_of_json, optional_list_of_json, uint32, uint64, value_of_json, value_to_json,
-    values_to_json,
+    option_of_json, optional_list_of_json, text_of, uint32, uint64, value_of_json, value_to_json,
 };
 use serde_json::Value as Json;
 use std::alloc::Global;
@@ -20,8 +19,8 @@ fn written(alloc: Global, text: &str) -> Result<String, ReadFail> {
 
 fn list_written(alloc: Global, text: &str) -> Result<String, ReadFail> {
     let values: Values = optional_list_of_json(alloc, &json_of(alloc, text)?)?;
-    let json = values_to_json(alloc, values.copy(alloc)?.as_slice())?;
-    json.to_string(alloc).map_err(|_| ReadFail::NoMemory)
+    let text = text_of(alloc, &values.copy(alloc)?)?;
+    String::from_str(alloc, text.as_str()).map_err(|_| ReadFail::NoMemory)
 }
 
 #[test]

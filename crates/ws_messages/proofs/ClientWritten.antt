@@ -1,34 +1,26 @@
--- What is written for a message of a client is a form of it, has no float, and is not too deep to be read.
-use Rattle.std.proofs.Common.{◌≡◌, ℕ, ℤ, ◌≤◌, List, Option, None, Some, false, codes, refl, subst, sym, ap, ◌∙◌, arith}
-use Rattle.std.specs.Prelude.{pos, negsuc, FitsSigned, IsUtf8}
+-- What is written for a message of a client is a form of it, and is not too deep to be read.
+use Rattle.std.proofs.Common.{◌≡◌, ℕ, ℤ, ◌≤◌, List, Some, codes, refl, subst, sym, arith}
+use Rattle.std.specs.Prelude.{pos, negsuc, FitsSigned, IsUtf8, Result, Ok, Err, IfOk, OnOk}
 use Rattle.std.specs.Int.{w32}
-use Rattle.serde_json.specs.Data.{string, object, Members, put, depth, members_depth}
-use Rattle.serde_json.specs.Read.{read}
-use Rattle.serde_json.specs.Written.{has_float, members_have_float}
-use Rattle.hrana_value.specs.Members.{HasText, HasInt32, Int32Tree, TextTree, whole_of}
-use Rattle.hrana_value.specs.Trees.{OptionalTree}
-use Rattle.hrana_value.proofs.NoFloats.{neither}
+use Rattle.serde_json.specs.Data.{Data, object, depth, members_depth}
+use Rattle.serde_json.specs.Read.{read, max_depth}
+use Rattle.hrana_value.specs.Members.{HasText, HasInt32, Int32Tree, part_at, whole_of}
+use Rattle.hrana_value.specs.declared.failures.NoMemory.{NoMemory}
 use Rattle.hrana_stmt.specs.declared.statements.SqlRef.TheVariants as sql
-use Rattle.hrana_stmt.specs.Written.{optional_text}
-use Rattle.hrana_stmt.proofs.NoFloats.{has_float-stmt_data, has_float-optional_text}
+use Rattle.hrana_stmt.proofs.Depths.{depth-stmt_data, depth-optional_text}
+use Rattle.hrana_stmt.proofs.WrittenLemmas.{optional_text_back}
+use Rattle.hrana_batch.proofs.Depths.{depth-batch_data}
 use Rattle.stream_requests.specs.declared.asks.Ask.{Ask}
-use Rattle.stream_requests.specs.declared.asks.Ask.TheVariants.{Execute, Batch, Sequence, Cursor, Fetch, GetAutocommit, Close}
-use Rattle.stream_requests.specs.declared.asks.Ask.TheVariants as ask
+use Rattle.stream_requests.specs.declared.asks.Ask.TheVariants.{Execute, Batch, Sequence, Cursor, GetAutocommit, Close}
 use Rattle.stream_requests.specs.Asks.{ask_kind, AskMembers, AskFits, AskReadsBack, put_ask}
-use Rattle.stream_requests.proofs.Puts.{members_have_float-put, members_depth-put}
-use Rattle.stream_requests.proofs.NoFloats.{has_float-integer}
-use Rattle.stream_requests.proofs.Depths.{depth-stmt_data, depth-optional_text}
-use Rattle.hrana_batch.specs.Written.{batch_data}
-use Rattle.stream_requests.proofs.BatchFacts.{has_float-batch_data, depth-batch_data}
 use Rattle.ws_messages.specs.declared.messages.WsRequest.{WsRequest}
 use Rattle.ws_messages.specs.declared.messages.WsRequest.TheVariants.{OpenStream, OnStream, OpenCursor, CloseCursor, FetchCursor, StoreSql, CloseSql}
 use Rattle.ws_messages.specs.declared.messages.ClientMsg.{ClientMsg}
 use Rattle.ws_messages.specs.declared.messages.ClientMsg.TheVariants.{Hello, Request}
 use Rattle.ws_messages.specs.declared.kinds.Kind.{Kind}
-use Rattle.ws_messages.specs.declared.kinds.Kind.TheVariants as kind
 use Rattle.ws_messages.specs.Kinds.{name_of, kind_of, IsStreamAsk}
-use Rattle.ws_messages.specs.Requests.{RequestTree, RequestFits, IsFormed}
-use Rattle.ws_messages.specs.Client.{ClientTree, HasClientForm, ClientFits, IsClientText, FittingClientMessagesAreRead}
+use Rattle.ws_messages.specs.Requests.{RequestMembers, RequestTree, RequestFits, IsFormed}
+use Rattle.ws_messages.specs.Client.{request_of, ClientTree, HasClientForm, ClientFits, IsClientText, FittingClientMessagesAreRead}
 use Rattle.ws_messages.specs.WrittenClient.{integer, on_stream, request_data, client_data, RequestReadsBack, ClientReadsBack}
 
 -- ---- forms
@@ -77,78 +69,40 @@ request_back (FetchCursor cursor count) formed h = record { formed = tt; kind = 
 request_back (StoreSql id text) formed h = record { formed = tt; kind = refl; members = (int32_back id h, refl) }
 request_back (CloseSql id) formed h = record { formed = tt; kind = refl; members = int32_back id h }
 
-token_back : (o : Option (List ℕ)) → OptionalTree TextTree o (optional_text o)
-token_back None = refl
-token_back (Some s) = (λ e. cc e, refl)
-
 pub client_back : (m : ClientMsg) → HasClientForm m → ClientReadsBack m → ClientTree m (client_data m)
-client_back (Hello jwt) formed h = (refl, token_back jwt)
+client_back (Hello jwt) formed h = (refl, optional_text_back jwt)
 client_back (Request id r) formed h = (refl, int32_back id h.0, request_back r formed h.1)
-
--- ---- no floats
-
-floats_put_ask : (a : Ask) (ms : Members) → AskReadsBack a → members_have_float ms ≡ false → members_have_float (put_ask a ms) ≡ false
-floats_put_ask (Execute stmt) ms h q = members_have_float-put _ _ ms (has_float-stmt_data stmt) q
-floats_put_ask (Batch batch) ms h q = members_have_float-put _ _ ms (has_float-batch_data batch (batch_data batch) h) q
-floats_put_ask (Sequence (sql.Text s)) ms h q = members_have_float-put _ _ ms refl q
-floats_put_ask (Sequence (sql.Id z)) ms h q = members_have_float-put _ _ ms (has_float-integer z) q
-floats_put_ask (Cursor batch) ms h q = members_have_float-put _ _ ms (has_float-batch_data batch (batch_data batch) h) q
-floats_put_ask (Fetch count) ms h q = members_have_float-put _ _ ms refl q
-floats_put_ask ask.CloseCursor ms h q = q
-floats_put_ask GetAutocommit ms h q = q
-floats_put_ask (ask.StoreSql id text) ms h q =
-    members_have_float-put (codes "sql_id") (integer id) (put (codes "sql") (string text) ms) (has_float-integer id) (members_have_float-put (codes "sql") (string text) ms refl q)
-floats_put_ask (ask.CloseSql id) ms h q = members_have_float-put _ _ ms (has_float-integer id) q
-floats_put_ask Close ms h q = q
-
-floats_on_stream : (stream : ℤ) (k : Kind) → members_have_float (on_stream stream k) ≡ false
-floats_on_stream stream k = neither _ _ (has_float-integer stream) refl
-
-floats_request : (r : WsRequest) → RequestReadsBack r → has_float (request_data r) ≡ false
-floats_request (OpenStream stream) h = floats_on_stream stream kind.OpenStream
-floats_request (OnStream stream a) h = floats_put_ask a (on_stream stream (kind_of (ask_kind a))) h.1 (floats_on_stream stream (kind_of (ask_kind a)))
-floats_request (OpenCursor stream cursor batch) h =
-    neither _ _ (has_float-batch_data batch (batch_data batch) h.1) (neither _ _ (has_float-integer cursor) (floats_on_stream stream kind.OpenCursor))
-floats_request (CloseCursor cursor) h = neither _ _ (has_float-integer cursor) refl
-floats_request (FetchCursor cursor count) h = neither _ _ (has_float-integer cursor) refl
-floats_request (StoreSql id text) h = neither _ _ refl (neither _ _ (has_float-integer id) refl)
-floats_request (CloseSql id) h = neither _ _ (has_float-integer id) refl
-
-pub has_float-client_data : (m : ClientMsg) → ClientReadsBack m → has_float (client_data m) ≡ false
-has_float-client_data (Hello jwt) h = neither _ _ (has_float-optional_text jwt) refl
-has_float-client_data (Request id r) h = neither _ _ (floats_request r h.1) (neither _ _ (has_float-integer id) refl)
 
 -- ---- depth
 
-depth_put_ask : (a : Ask) (ms : Members) → AskReadsBack a → AskFits a → members_depth ms ≤ 70 → members_depth (put_ask a ms) ≤ 70
-depth_put_ask (Execute stmt) ms h fits q = members_depth-put _ _ ms 70 (omega (arith, depth-stmt_data stmt)) q
-depth_put_ask (Batch batch) ms h fits q = members_depth-put _ _ ms 70 (depth-batch_data batch (batch_data batch) h fits) q
-depth_put_ask (Sequence (sql.Text s)) ms h fits q = members_depth-put _ _ ms 70 (omega arith) q
-depth_put_ask (Sequence (sql.Id z)) ms h fits q = members_depth-put _ _ ms 70 (omega arith) q
-depth_put_ask (Cursor batch) ms h fits q = members_depth-put _ _ ms 70 (depth-batch_data batch (batch_data batch) h fits) q
-depth_put_ask (Fetch count) ms h fits q = members_depth-put _ _ ms 70 (omega arith) q
-depth_put_ask ask.CloseCursor ms h fits q = q
-depth_put_ask GetAutocommit ms h fits q = q
-depth_put_ask (ask.StoreSql id text) ms h fits q =
-    members_depth-put (codes "sql_id") (integer id) (put (codes "sql") (string text) ms) 70 (omega arith) (members_depth-put (codes "sql") (string text) ms 70 (omega arith) q)
-depth_put_ask (ask.CloseSql id) ms h fits q = members_depth-put _ _ ms 70 (omega arith) q
-depth_put_ask Close ms h fits q = q
+depth_asked : (a : Ask) (stream : ℤ) (k : Kind) (t : Data) → AskMembers a t → AskFits a → members_depth (put_ask a (on_stream stream k)) ≤ 70
+depth_asked (Execute stmt) stream k t h fits = omega (arith, depth-stmt_data stmt)
+depth_asked (Batch batch) stream k t h fits = omega (arith, depth-batch_data batch (part_at (codes "batch") t) h fits)
+depth_asked (Sequence (sql.Text s)) stream k t h fits = omega arith
+depth_asked (Sequence (sql.Id z)) stream k t h fits = omega arith
+depth_asked (Cursor batch) stream k t h fits = omega (arith, depth-batch_data batch (part_at (codes "batch") t) h fits)
+depth_asked a stream k t h fits = omega arith
 
-depth_request : (r : WsRequest) → RequestReadsBack r → RequestFits r → depth (request_data r) ≤ 71
-depth_request (OpenStream stream) h fits = omega arith
-depth_request (OnStream stream a) h fits = omega (arith, depth_put_ask a (on_stream stream (kind_of (ask_kind a))) h.1 fits (omega arith))
-depth_request (OpenCursor stream cursor batch) h fits = omega (arith, depth-batch_data batch (batch_data batch) h.1 fits)
-depth_request (CloseCursor cursor) h fits = omega arith
-depth_request (FetchCursor cursor count) h fits = omega arith
-depth_request (StoreSql id text) h fits = omega arith
-depth_request (CloseSql id) h fits = omega arith
+depth_request : (r : WsRequest) (t : Data) → RequestMembers r t → RequestFits r → depth (request_data r) ≤ 71
+depth_request (OpenStream stream) t h fits = omega arith
+depth_request (OnStream stream a) t h fits = omega (arith, depth_asked a stream (kind_of (ask_kind a)) t h.1 fits)
+depth_request (OpenCursor stream cursor batch) t h fits = omega (arith, depth-batch_data batch (part_at (codes "batch") t) h.1 fits)
+depth_request (CloseCursor cursor) t h fits = omega arith
+depth_request (FetchCursor cursor count) t h fits = omega arith
+depth_request (StoreSql id text) t h fits = omega arith
+depth_request (CloseSql id) t h fits = omega arith
 
-pub depth-client_data : (m : ClientMsg) → ClientReadsBack m → ClientFits m → depth (client_data m) ≤ 72
-depth-client_data (Hello jwt) h fits = omega (arith, depth-optional_text jwt)
-depth-client_data (Request id r) h fits = omega (arith, depth_request r h.1 fits)
+depth-client_data : (m : ClientMsg) (t : Data) → ClientTree m t → ClientFits m → depth (client_data m) ≤ 72
+depth-client_data (Hello jwt) t h fits = omega (arith, depth-optional_text jwt)
+depth-client_data (Request id r) t h fits = let deep = depth_request r (request_of t) h.2.members fits in omega (arith, deep)
 
 -- ---- the text
 
-pub encoded : FittingClientMessagesAreRead → (m : ClientMsg) (text bytes : List ℕ) → text ≡ bytes → IsUtf8 bytes → read bytes ≡ Some (client_data m) → ClientReadsBack m → HasClientForm m → ClientFits m → IsClientText text m
-encoded are_read m text bytes same utf8 is h formed fits =
-    let tree = client_back m formed h in (client_data m, (subst IsUtf8 (sym same) utf8, ap read same ∙ is), tree, (are_read m (client_data m) tree).0 fits)
+pub numbered_back : (m : ClientMsg) (id : ℤ) (r : WsRequest) → m ≡ Request id r → FitsSigned w32 id → RequestReadsBack r → ClientReadsBack m
+numbered_back m id r is fits back = subst ClientReadsBack (sym is) (fits, back)
+
+pub encoded : FittingClientMessagesAreRead → (m : ClientMsg) (r : Result (List ℕ) NoMemory) → HasClientForm m → IfOk r IsUtf8 → IfOk r (λ text. depth (client_data m) ≤ max_depth → read text ≡ Some (client_data m)) → OnOk r (HasClientForm m → ClientTree m (client_data m))
+    → IfOk r (λ text. ClientFits m → IsClientText text m)
+encoded are_read m (Ok text) formed utf8 is back = λ fits.
+    let tree = back formed in let deep = depth-client_data m (client_data m) tree fits in (client_data m, (utf8, is (omega (arith, deep))), tree, (are_read m (client_data m) tree).0 fits)
+encoded are_read m (Err e) formed utf8 is back = tt

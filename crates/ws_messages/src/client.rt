@@ -1,6 +1,5 @@
 // Messages of a client, from texts and back.
-ghost use Rattle.std.specs.Prelude.{◌≡◌, ℤ, IfOk, IfErr, OnOk, codes, FitsSigned};
-ghost use Rattle.std.specs.Int.{w32};
+ghost use Rattle.std.specs.Prelude.{◌≡◌, ℤ, IfOk, IfErr, codes};
 ghost use Rattle.serde_json.specs.Written.{compact_text};
 ghost use Rattle.serde_json.specs.View.{view};
 ghost use Rattle.hrana_value.specs.Declines.{NoneStands};
@@ -8,17 +7,15 @@ ghost use Rattle.hrana_value.specs.Members.{HasText};
 ghost use Rattle.hrana_value.specs.declared.failures.Decline.{Decline};
 ghost use Rattle.ws_messages.specs.declared.messages.Why.{Why};
 ghost use Rattle.ws_messages.specs.Client.{ClientTree, ClientStands, ClientDeclines, ClientViolates, HasClientForm, ClientFits, IsClientText, IsDeclinedRequest, BreaksAsClient, NoTreeIsTwoClientMessages, FittingClientMessagesAreRead, NoTextHasTwoClientAnswers};
-ghost use Rattle.ws_messages.specs.WrittenClient.{request_object, client_data, ClientReadsBack};
+ghost use Rattle.ws_messages.specs.WrittenClient.{client_data};
 
 use crate::request_json::request_of_json;
-use crate::request_written::request_to_json;
-use crate::{ClientMsg, MsgFail, Why, WsRequest};
+use crate::{ClientMsg, MsgFail, Why};
 use hrana_batch::{fitting_batches_are_read, no_tree_is_two_batches};
-use hrana_stmt::optional_text_to_json;
 use hrana_value::{
-    NoMemory, ReadFail, Txt, int32_member, member_or_null, option_of_json, text_member,
+    NoMemory, ReadFail, Txt, int32_member, member_or_null, option_of_json, text_member, text_of,
 };
-use serde_json::{Map, Value as Json, json, put};
+use serde_json::Value as Json;
 use std::alloc::Global;
 use stream_requests::{fitting_asks_are_read, no_members_are_two_asks};
 
@@ -98,48 +95,6 @@ pub fn decode_client(alloc: Global, bytes: &[u8]) -> Result<ClientMsg, MsgFail>
     }
 }
 
-fn hello_to_json(alloc: Global, jwt: &Option<Txt>) -> Result<Json, NoMemory>
-    ensures { IfOk result (λ json. view json ≡ client_data (ClientMsg.Hello jwt.now)) }
-{
-    let token = optional_text_to_json(alloc, jwt)?;
-    let mut members = Map::new(alloc);
-    put(&mut members, alloc, "jwt", token)?;
-    put(&mut members, alloc, "type", json!(in alloc; "hello")?)?;
-    Ok(Json::Object(members))
-}
-
-fn numbered_members(alloc: Global, request_id: i32, request: Json) -> Result<Json, NoMemory>
-    ensures written { IfOk result (λ json. view json ≡ request_object request_id (view request)) }
-    ensures fits { FitsSigned w32 request_id }
-{
-    let mut members = Map::new(alloc);
-    put(&mut members, alloc, "request", request)?;
-    put(&mut members, alloc, "request_id", Json::from(request_id))?;
-    put(&mut members, alloc, "type", json!(in alloc; "request")?)?;
-    Ok(Json::Object(members))
-}
-
-fn numbered_to_json(alloc: Global, request_id: i32, request: &WsRequest) -> Result<Json, NoMemory>
-    ensures written { IfOk result (λ json. view json ≡ client_data (ClientMsg.Request request_id request.now)) }
-    ensures reads_back { OnOk result (ClientReadsBack (ClientMsg.Request request_id request.now)) }
-{
-    let request = request_to_json(alloc, request)?;
-    numbered_members(alloc, request_id, request)
-}
-
-fn client_to_json(alloc: Global, msg: &ClientMsg) -> Result<Json, NoMemory>
-    ensures written { IfOk result (λ json. view json ≡ client_data msg.now) }
-    ensures reads_back { OnOk result (ClientReadsBack msg.now) }
-{
-    match msg {
-        ClientMsg::Hello { jwt } => hello_to_json(alloc, jwt),
-        ClientMsg::Request {
-            request_id,
-            request,
-        } => numbered_to_json(alloc, *request_id, request),
-    }
-}
-
 /// Writes a message of a client, compact and with its members in byte order. What is absent is left out, but a token
 /// that is absent is null. What is asked of a stream is to be what a request may ask it.
 pub fn encode_client(alloc: Global, msg: &ClientMsg) -> Result<Txt, NoMemory>
@@ -147,8 +102,7 @@ pub fn encode_client(alloc: Global, msg: &ClientMsg) -> Result<Txt, NoMemory>
     ensures written { IfOk result (λ text. text ≡ compact_text (client_data msg.now)) }
     ensures reads_back { IfOk result (λ text. ClientFits msg.now → IsClientText text msg.now) }
 {
-    let json = client_to_json(alloc, msg)?;
-    Ok(Txt::from_string(json.to_string(alloc)?))
+    text_of(alloc, msg)
 }
 
 /// A tree is the form of at most one message of a client.

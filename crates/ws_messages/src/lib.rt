@@ -6,8 +6,9 @@ mod forms;
 mod kinds;
 mod messages;
 mod request_json;
-mod request_written;
+mod request_text;
 mod response_json;
+mod sending;
 mod server;
 
 pub use client::{

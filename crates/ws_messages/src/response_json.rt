@@ -1,18 +1,16 @@
-// Responses from JSON trees and back.
-ghost use Rattle.std.specs.Prelude.{◌≡◌, IfOk, OnOk};
+// Responses from JSON trees.
+ghost use Rattle.std.specs.Prelude.{◌≡◌};
 ghost use Rattle.serde_json.specs.View.{view};
 ghost use Rattle.hrana_value.specs.Declines.{Reads};
-ghost use Rattle.stream_requests.specs.Replies.{ReplyMembersStand, ReplyReadsBack};
+ghost use Rattle.stream_requests.specs.Replies.{ReplyMembersStand};
 ghost use Rattle.ws_messages.specs.Kinds.{kind_of};
 ghost use Rattle.ws_messages.specs.Server.{IsReplyOf, ResponseTree, ResponseStands, ResponseMembersStand};
-ghost use Rattle.ws_messages.specs.WrittenServer.{response_data};
 
-use crate::request_written::kind_to_json;
 use crate::{Kind, kind_of_name};
-use hrana_value::{Decline, NoMemory, ReadFail, text_member};
-use serde_json::{Map, Value as Json, put};
+use hrana_value::{Decline, ReadFail, text_member};
+use serde_json::Value as Json;
 use std::alloc::Global;
-use stream_requests::{AskKind, Reply, put_reply, reply_of_json};
+use stream_requests::{AskKind, Reply, reply_of_json};
 
 fn reply_to_ask(alloc: Global, kind: AskKind, json: &Json) -> Result<Reply, ReadFail>
     ensures { Reads (λ r. IsReplyOf (kind_of kind) r (view json.now)) (ReplyMembersStand kind (view json.now)) result }
@@ -55,16 +53,4 @@ pub fn response_of_json(alloc: Global, json: &Json) -> Result<(Kind, Reply), Rea
         Some(kind) => response_of_kind(alloc, kind, json),
         None => Err(ReadFail::Declined(Decline::Shape)),
     }
-}
-
-/// Writes a response with its members in byte order.
-pub fn response_to_json(alloc: Global, kind: Kind, reply: &Reply) -> Result<Json, NoMemory>
-    ensures written { IfOk result (λ json. view json ≡ response_data kind reply.now) }
-    ensures reads_back { OnOk result (ReplyReadsBack reply.now) }
-{
-    let kind = kind_to_json(alloc, kind)?;
-    let mut members = Map::new(alloc);
-    put(&mut members, alloc, "type", kind)?;
-    put_reply(&mut members, alloc, reply)?;
-    Ok(Json::Object(members))
 }

@@ -1,5 +1,5 @@
 // Messages of the server, from texts and back.
-ghost use Rattle.std.specs.Prelude.{◌≡◌, ℤ, IfOk, IfErr, OnOk, codes};
+ghost use Rattle.std.specs.Prelude.{◌≡◌, ℤ, IfOk, IfErr, codes};
 ghost use Rattle.serde_json.specs.View.{view};
 ghost use Rattle.serde_json.specs.Written.{compact_text};
 ghost use Rattle.hrana_value.specs.Members.{HasText};
@@ -7,15 +7,17 @@ ghost use Rattle.hrana_value.specs.declared.failures.Decline.{Decline};
 ghost use Rattle.ws_messages.specs.declared.messages.Why.{Why};
 ghost use Rattle.ws_messages.specs.Failures.{rest_failure};
 ghost use Rattle.ws_messages.specs.Server.{ServerTree, ServerDeclines, ServerViolates, HasServerForm, IsServerText, IsDeclinedReply, BreaksAsServer, NoTreeIsTwoServerMessages, ServerMessagesAreRead, NoTextHasTwoServerAnswers};
-ghost use Rattle.ws_messages.specs.WrittenServer.{server_data, ServerReadsBack};
+ghost use Rattle.ws_messages.specs.WrittenServer.{server_data};
 
-use crate::response_json::{response_of_json, response_to_json};
-use crate::{Kind, MsgFail, ServerMsg, Why};
-use hrana_stmt::{WireError, error_of_json, error_to_json};
-use hrana_value::{Decline, NoMemory, ReadFail, Txt, int32_member, member_or_null, text_member};
-use serde_json::{Map, Value as Json, json, put};
+use crate::response_json::response_of_json;
+use crate::{MsgFail, ServerMsg, Why};
+use hrana_stmt::error_of_json;
+use hrana_value::{
+    Decline, NoMemory, ReadFail, Txt, int32_member, member_or_null, text_member, text_of,
+};
+use serde_json::Value as Json;
 use std::alloc::Global;
-use stream_requests::{Reply, no_members_are_two_replies, replies_are_read};
+use stream_requests::{no_members_are_two_replies, replies_are_read};
 
 fn rest_failure(request_id: i32, fail: ReadFail) -> MsgFail
     ensures { result ≡ rest_failure request_id fail }
@@ -121,68 +123,6 @@ pub fn decode_server(alloc: Global, bytes: &[u8]) -> Result<ServerMsg, MsgFail>
     }
 }
 
-fn hello_ok_to_json(alloc: Global) -> Result<Json, NoMemory>
-    ensures { IfOk result (λ json. view json ≡ server_data ServerMsg.HelloOk) }
-{
-    Ok(json!(in alloc; {"type": "hello_ok"})?)
-}
-
-fn hello_error_to_json(alloc: Global, error: &WireError) -> Result<Json, NoMemory>
-    ensures written { IfOk result (λ json. view json ≡ server_data (ServerMsg.HelloError error.now)) }
-    ensures reads_back { OnOk result (ServerReadsBack (ServerMsg.HelloError error.now)) }
-{
-    let error = error_to_json(alloc, error)?;
-    let mut members = Map::new(alloc);
-    put(&mut members, alloc, "error", error)?;
-    put(&mut members, alloc, "type", json!(in alloc; "hello_error")?)?;
-    Ok(Json::Object(members))
-}
-
-fn ok_to_json(alloc: Global, request_id: i32, kind: Kind, reply: &Reply) -> Result<Json, NoMemory>
-    ensures written { IfOk result (λ json. view json ≡ server_data (ServerMsg.Ok request_id kind reply.now)) }
-    ensures reads_back { OnOk result (ServerReadsBack (ServerMsg.Ok request_id kind reply.now)) }
-{
-    let response = response_to_json(alloc, kind, reply)?;
-    let mut members = Map::new(alloc);
-    put(&mut members, alloc, "request_id", Json::from(request_id))?;
-    put(&mut members, alloc, "response", response)?;
-    put(&mut members, alloc, "type", json!(in alloc; "response_ok")?)?;
-    Ok(Json::Object(members))
-}
-
-fn error_msg_to_json(alloc: Global, request_id: i32, error: &WireError) -> Result<Json, NoMemory>
-    ensures written { IfOk result (λ json. view json ≡ server_data (ServerMsg.Error request_id error.now)) }
-    ensures reads_back { OnOk result (ServerReadsBack (ServerMsg.Error request_id error.now)) }
-{
-    let error = error_to_json(alloc, error)?;
-    let mut members = Map::new(alloc);
-    put(&mut members, alloc, "error", error)?;
-    put(&mut members, alloc, "request_id", Json::from(request_id))?;
-    put(
-        &mut members,
-        alloc,
-        "type",
-        json!(in alloc; "response_error")?,
-    )?;
-    Ok(Json::Object(members))
-}
-
-fn server_to_json(alloc: Global, msg: &ServerMsg) -> Result<Json, NoMemory>
-    ensures written { IfOk result (λ json. view json ≡ server_data msg.now) }
-    ensures reads_back { OnOk result (ServerReadsBack msg.now) }
-{
-    match msg {
-        ServerMsg::HelloOk => hello_ok_to_json(alloc),
-        ServerMsg::HelloError(error) => hello_error_to_json(alloc, error),
-        ServerMsg::Ok {
-            request_id,
-            kind,
-            reply,
-        } => ok_to_json(alloc, *request_id, *kind, reply),
-        ServerMsg::Error { request_id, error } => error_msg_to_json(alloc, *request_id, error),
-    }
-}
-
 /// Writes a message of the server, compact and with its members in byte order. What is absent is null. A reply is to
 /// have the form of its kind.
 pub fn encode_server(alloc: Global, msg: &ServerMsg) -> Result<Txt, NoMemory>
@@ -190,8 +130,7 @@ pub fn encode_server(alloc: Global, msg: &ServerMsg) -> Result<Txt, NoMemory>
     ensures written { IfOk result (λ text. text ≡ compact_text (server_data msg.now)) }
     ensures reads_back { IfOk result (λ text. IsServerText text msg.now) }
 {
-    let json = server_to_json(alloc, msg)?;
-    Ok(Txt::from_string(json.to_string(alloc)?))
+    text_of(alloc, msg)
 }
 
 /// A tree is the form of at most one message of the server.

@@ -17,14 +17,14 @@ send_cond-returns-in-StepOk-clause-back g t c = on_ok_weaker c.send_step.result 
 pub send_cond-returns-in-StepError-clause-back : goal.send_cond-returns-in-StepError-clause-back
 send_cond-returns-in-StepError-clause-back g t c = on_ok_weaker c.send_step-in-StepError.result (λ e. step_error_sent c.args.cond.now c.in-StepError.step c.in-StepError.is c.send_step-in-StepError.ensures.fits) c.send_step-in-StepError.ensures.sends
 
-pub send_cond-returns-in_ok-str-in-Not-clause-back : goal.send_cond-returns-in_ok-str-in-Not-clause-back
-send_cond-returns-in_ok-str-in-Not-clause-back g t c = on_ok_weaker c.end_map.result (λ e. not_sent c.args.cond.now c.in-Not.part c.get.result.now c.in-Not.is c.get.ensures c.in_ok-send_cond-in-Not.ensures.back) c.end_map.ensures
+pub send_cond-returns-in_ok-send_cond-in-Not-clause-back : goal.send_cond-returns-in_ok-send_cond-in-Not-clause-back
+send_cond-returns-in_ok-send_cond-in-Not-clause-back g t c = on_ok_weaker c.end_with_text.result (λ e. not_sent c.args.cond.now c.in-Not.part c.get.result.now c.in-Not.is c.get.ensures c.in_ok-send_cond-in-Not.ensures.back) c.end_with_text.ensures
 
-pub send_cond-returns-in_ok-str-in-All-clause-back : goal.send_cond-returns-in_ok-str-in-All-clause-back
-send_cond-returns-in_ok-str-in-All-clause-back g t c = on_ok_weaker c.end_map-in-All.result (λ e. all_sent c.args.cond.now c.in-All.parts c.as_slice.result.now c.in-All.is c.as_slice.ensures c.in_ok-send_conds-in-All.ensures.back) c.end_map-in-All.ensures
+pub send_cond-returns-in_ok-send_conds-in-All-clause-back : goal.send_cond-returns-in_ok-send_conds-in-All-clause-back
+send_cond-returns-in_ok-send_conds-in-All-clause-back g t c = on_ok_weaker c.end_with_text-in-All.result (λ e. all_sent c.args.cond.now c.in-All.parts c.as_slice.result.now c.in-All.is c.as_slice.ensures c.in_ok-send_conds-in-All.ensures.back) c.end_with_text-in-All.ensures
 
-pub send_cond-returns-in_ok-str-in-Any-clause-back : goal.send_cond-returns-in_ok-str-in-Any-clause-back
-send_cond-returns-in_ok-str-in-Any-clause-back g t c = on_ok_weaker c.end_map-in-Any.result (λ e. any_sent c.args.cond.now c.in-Any.parts c.as_slice-in-Any.result.now c.in-Any.is c.as_slice-in-Any.ensures c.in_ok-send_conds-in-Any.ensures.back) c.end_map-in-Any.ensures
+pub send_cond-returns-in_ok-send_conds-in-Any-clause-back : goal.send_cond-returns-in_ok-send_conds-in-Any-clause-back
+send_cond-returns-in_ok-send_conds-in-Any-clause-back g t c = on_ok_weaker c.end_with_text-in-Any.result (λ e. any_sent c.args.cond.now c.in-Any.parts c.as_slice-in-Any.result.now c.in-Any.is c.as_slice-in-Any.ensures c.in_ok-send_conds-in-Any.ensures.back) c.end_with_text-in-Any.ensures
 
 pub send_cond-returns-in-Autocommit-clause-back : goal.send_cond-returns-in-Autocommit-clause-back
 send_cond-returns-in-Autocommit-clause-back g t c = on_ok_weaker c.send_kind.result (λ e. autocommit_sent c.args.cond.now c.in-Autocommit.is) c.send_kind.ensures.sends
