@@ -14,6 +14,8 @@ mod keeper;
 #[cfg(test)]
 mod outside;
 #[cfg(test)]
+mod pipelines;
+#[cfg(test)]
 mod replay;
 #[cfg(test)]
 mod turns;

@@ -1,5 +1,9 @@
+pub mod AskNames
 pub mod Asks
 pub mod Entries
 pub mod EntryParts
+pub mod JsonTexts
 pub mod Replies
+pub mod Results
 pub mod WrittenEntries
+pub mod WrittenResults

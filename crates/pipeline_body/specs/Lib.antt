@@ -1,0 +1,5 @@
+pub mod Answers
+pub mod Bodies
+pub mod Failures
+pub mod Requests
+pub mod Written

@@ -1,0 +1,21 @@
+//! Bodies and answers of pipelines: from the bytes of an HTTP body and back (HRANA_3_SPEC, "Hrana over HTTP").
+#![tactic(auto)]
+
+mod answers;
+mod bodies;
+mod forms;
+mod limits;
+mod pipelines;
+mod request_json;
+mod sending;
+
+pub use answers::{
+    decode_pipeline_answer, encode_pipeline_answer, no_bytes_have_two_answer_readings,
+    no_tree_is_two_pipeline_answers, pipeline_answers_are_read,
+};
+pub use bodies::{BodyFail, PipeAsk, PipeAsks, PipelineAnswer, PipelineBody, Replies};
+pub use limits::{MAX_PIPELINE_ASKS, limits_are};
+pub use pipelines::{
+    decode_pipeline, encode_pipeline, fitting_asks_are_taken, no_bytes_have_two_body_readings,
+    no_tree_is_two_pipeline_bodies,
+};
