@@ -1,0 +1,10 @@
+//! The stream of a client, which is one session of the database: it is asked things, and polled. Each poll runs at most
+//! one statement and adds at most one entry, of this stream.
+#![tactic(auto)]
+
+mod session;
+mod table;
+mod texts;
+
+pub use session::{Cause, TxnState};
+pub use texts::{StoredText, StoredTexts};
