@@ -69,7 +69,7 @@ pub record Acts (stream : StreamNo) (seen : Seen) (state : TxnState) (want_rows 
   -- nobody writes, where the row is to write
   pub free : wants_turn row ≡ true → seen.by ≡ None
   pub may : MayAdd seen stream stmt row e
-  pub went : takes (λ unit. seen.version) want_rows state row e ≡ Some went
+  pub means : takes (λ unit. seen.version) want_rows state row e ≡ Some went
 
 -- another stream writes, and the row is to
 pub record IsHeld (stream : StreamNo) (seen : Seen) (row : Row) (went : Went) : Type 0 where

@@ -1,13 +1,19 @@
 -- What an entry of a stream does to the table of turns, and what it says of the table and the engine before it.
 use Rattle.std.specs.Prelude.{◌≡◌, ◌≢◌, ◌+◌, ◌≤◌, ◌⊎◌, ℕ, Bool, true, false, cond, IsTrue, IsSome, Option, Some, None}
 use Rattle.hrana_value.specs.declared.StreamNo.{StreamNo}
-use Rattle.txn_table.specs.Turns.{Turns, queued, given_back}
+use Rattle.txn_table.specs.Turns.{Turns, queued, given_back, grant_of, after_grant, after_commit, after_end}
+use Rattle.txn_table.specs.declared.table.Need.{Need}
+use Rattle.txn_table.specs.declared.table.Grant.{Grant}
+use Rattle.txn_table.specs.declared.table.Grant.TheVariants as grant
 use Rattle.engine_core.specs.Engine.{is_write, IsReadOrWrite}
 use Rattle.engine_core.specs.Transactions.{Lives, NoWriter, NoneLive, NoOtherWriter, StartsAt, MayCommit}
 use Rattle.engine_core.specs.declared.statement.BoundStmt.{BoundStmt}
 use Rattle.engine_core.specs.declared.entries.How.TheVariants as how
+use Rattle.engine_core.specs.declared.entries.Deny.TheVariants as deny
 use Rattle.engine_core.specs.declared.entries.Entry.{Entry}
 use Rattle.engine_core.specs.declared.entries.Entry.TheVariants as entry
+use Rattle.stream_task.specs.declared.turns.Turn.{Turn}
+use Rattle.stream_task.specs.declared.turns.Turn.TheVariants.{Taken, Held, Denied}
 use Rattle.stream_task.specs.declared.session.TxnState.{TxnState}
 use Rattle.stream_task.specs.declared.session.TxnState.TheVariants.{Reading, Writing}
 use Rattle.stream_task.specs.Table.{wrote}
@@ -84,12 +90,17 @@ pub record RanFrom {D : Type 0} (told : Bool) (db : D) (live : Lives D) (t : Tur
   pub lives : IsSome (live unit)
   pub writes : is_write stmt.class ≡ true → MayWrite told db live t stream unit
 
+-- a unit that is no more has lived, and where the stream held the turn nobody else writes
+pub record GoneFrom {D : Type 0} (live : Lives D) (t : Turns) (stream : StreamNo) (unit : ℕ) : Type 0 where
+  pub lives : IsSome (live unit)
+  pub only : t.turn ≡ Some stream → NoOtherWriter live unit
+
 pub record AloneFrom {D : Type 0} (live : Lives D) (t : Turns) (stmt : BoundStmt) : Type 0 where
   pub class : IsReadOrWrite stmt.class
   pub free : is_write stmt.class ≡ true → t.turn ≡ None
 
 pub record BeganFrom {D : Type 0} (writes : Bool) (live : Lives D) (next : ℕ) (t : Turns) (unit : ℕ) : Type 0 where
-  pub unit : unit ≡ next
+  pub number : unit ≡ next
   pub fresh : live unit ≡ None
   pub free : writes ≡ true → t.turn ≡ None
 
@@ -100,10 +111,10 @@ ComesFrom told writes db live next t stream (Some (entry.Began unit by)) = (by �
 ComesFrom told writes db live next t stream (Some (entry.Ran unit stmt given)) = RanFrom told db live t stream unit stmt
 ComesFrom told writes db live next t stream (Some (entry.Denied unit deny)) = IsSome (live unit)
 ComesFrom told writes db live next t stream (Some (entry.Ended unit how.Committed)) = WritesIn told db live t stream unit
-ComesFrom told writes db live next t stream (Some (entry.Ended unit how.Read)) = IsSome (live unit) × (t.turn ≢ Some stream)
-ComesFrom told writes db live next t stream (Some (entry.Ended unit (how.Undone why))) = IsSome (live unit)
+ComesFrom told writes db live next t stream (Some (entry.Ended unit how.Read)) = GoneFrom live t stream unit × (t.turn ≢ Some stream)
+ComesFrom told writes db live next t stream (Some (entry.Ended unit (how.Undone why))) = GoneFrom live t stream unit
 ComesFrom told writes db live next t stream (Some (entry.Failed by None cause)) = by ≡ stream
-ComesFrom told writes db live next t stream (Some (entry.Failed by (Some unit) cause)) = (by ≡ stream) × IsSome (live unit)
+ComesFrom told writes db live next t stream (Some (entry.Failed by (Some unit) cause)) = (by ≡ stream) × GoneFrom live t stream unit
 
 -- The entry comes from what was before, and the table went by it. Who has a place stays.
 pub record Moved {D : Type 0} (told writes : Bool) (db : D) (live : Lives D) (next : ℕ) (stream : StreamNo) (waits : Bool) (added : Option Entry) (t t' : Turns) : Type 0 where
@@ -112,3 +123,35 @@ pub record Moved {D : Type 0} (told writes : Bool) (db : D) (live : Lives D) (ne
   pub version : t'.version ≡ version_by added t.version
   pub reserved : t'.reserved ≡ t.reserved
   pub rests : Rests stream waits added t t'
+
+-- ---- the turn, as a poll asks for it and gives it back
+
+-- what a stream is granted that wants this, and what it is told
+abbrev pub turn_for : Grant → Turn
+turn_for (grant.Now version) = Taken
+turn_for (grant.Wait holder) = Held
+turn_for (grant.Stale had now) = Denied (deny.Stale had now)
+turn_for (grant.Held holder) = Denied (deny.Held holder)
+
+abbrev pub turn_given : Turns → Option Need → Turn
+turn_given t None = Taken
+turn_given t (Some n) = turn_for (grant_of t n)
+
+abbrev pub table_given : Turns → StreamNo → Option Need → Turns
+table_given t stream None = t
+table_given t stream (Some n) = after_grant t stream (grant_of t n)
+
+-- the table after the entry of a stream that has the turn, or needs none
+abbrev pub settled : StreamNo → Entry → Turns → Turns
+settled stream (entry.Alone by stmt given true) t = after_commit t
+settled stream (entry.Alone by stmt given false) t = after_end t stream
+settled stream (entry.Ended unit how.Committed) t = after_commit t
+settled stream (entry.Ended unit end) t = after_end t stream
+settled stream (entry.Failed by unit cause) t = after_end t stream
+settled stream e t = t
+
+-- an entry that commits is of the stream that holds the turn
+abbrev pub CommitsByTurn : StreamNo → Entry → Turns → Type 0
+CommitsByTurn stream (entry.Alone by stmt given true) t = t.turn ≡ Some stream
+CommitsByTurn stream (entry.Ended unit how.Committed) t = t.turn ≡ Some stream
+CommitsByTurn stream e t = Unit {0}

@@ -1,5 +1,5 @@
 -- The table of polls: what a statement does in a session, which entry may come of it, and what that entry means.
-use Rattle.std.specs.Prelude.{◌≡◌, ◌<◌, ◌≤◌, ℕ, ◌&&◌, IsTrue, Bool, true, false, not, cond, [], Option, Some, None}
+use Rattle.std.specs.Prelude.{◌≡◌, ◌<◌, ◌≤◌, ℕ, ◌&&◌, IsTrue, Bool, true, false, not, cond, [], Option, Some, None, IsSomeAnd}
 use Rattle.hrana_value.specs.declared.StreamNo.{StreamNo}
 use Rattle.hrana_stmt.specs.declared.codes.Code.{Code}
 use Rattle.hrana_stmt.specs.declared.codes.Code.TheVariants as code
@@ -123,10 +123,10 @@ IsAnswer (answer.Gave given) = IsSmall given
 IsAnswer (answer.Refused refusal) = IsTrue (is_engine_code refusal)
 
 pub record IsAlone (stream : StreamNo) (stmt : BoundStmt) (by : StreamNo) (ran : BoundStmt) (given : Answer) (has_written : Bool) : Type 0 where
-  pub stream : by ≡ stream
-  pub stmt : ran ≡ stmt
-  pub wrote : has_written ≡ wrote stmt given
-  pub answer : IsAnswer given
+  pub own : by ≡ stream
+  pub same : ran ≡ stmt
+  pub written : has_written ≡ wrote stmt given
+  pub fits : IsAnswer given
 
 abbrev pub MayBeAlone : StreamNo → BoundStmt → Entry → Type 0
 MayBeAlone stream stmt (entry.Alone by ran given has_written) = IsAlone stream stmt by ran given has_written
@@ -242,3 +242,8 @@ state_after state (Short next) = next
 abbrev pub is_waiting : Went → Bool
 is_waiting Waits = true
 is_waiting went = false
+
+-- what came of an entry is what it means, or there was no memory for it, and the state is the one that the entry leaves
+abbrev pub IsTaken : TxnState → Option Went → Went → Type 0
+IsTaken state meant (Short left) = IsSomeAnd meant (λ went. state_after state went ≡ left)
+IsTaken state meant went = meant ≡ Some went

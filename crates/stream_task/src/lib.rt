@@ -2,9 +2,11 @@
 //! one statement and adds at most one entry, of this stream.
 #![tactic(auto)]
 
+mod outcomes;
 mod session;
 mod table;
 mod texts;
+mod turns;
 
 pub use session::{Cause, TxnState};
 pub use texts::{StoredText, StoredTexts};
