@@ -14,7 +14,9 @@ use Rattle.std.proofs.lemmas.List.{drop_all, length-map}
 use Rattle.sql_text.specs.Spans.{unclosed_at}
 use Rattle.sql_text.specs.Pieces.{pieces}
 use Rattle.sql_text.specs.Parameters.{Numbered, parameter_texts, all_fit, all_numbered, has_number, greatest}
-use Rattle.sql_text.specs.Binding.{numbers_fit, parameters_of, all_expected, first_missing, is_missing, value_given, last_given, number_met, value_of, values_of, or_missing, or_unclosed, numbers_from, bound_values, bound, ValueAs, AnswersAs, StandsFor, RefusesAs, HasLast}
+use Rattle.sql_text.specs.Binding.{numbers_fit, parameters_of, all_expected, first_missing, is_missing, value_given, last_given, number_met, value_of, values_of, or_missing, or_unclosed, numbers_from, bound_values, bound_read, bound, ValueAs, AnswersAs, HasLast}
+use Rattle.sql_text.specs.declared.scan.Scan.{Scan}
+use Rattle.sql_text.specs.Found.{IsScanOf}
 use Rattle.sql_text.proofs.PieceLists.{pieces-nil}
 
 -- what holds while the parameters are read: those to come lead to those of the text, or a number didn't fit
@@ -37,14 +39,10 @@ pub so_far_start : (ps : List Numbered) (sql : List ℕ) → ps ≡ [] → GoesO
 so_far_start [] sql none = record { fit = refl; all = refl }
 so_far_start (p ∷ ps) sql none = cc none
 
-pub so_far_end : (fit : Bool) (ps : List Numbered) (sql : List ℕ) (texts : List (List ℕ)) → fit ≡ true → texts ≡ [] → SoFar fit ps sql texts → (numbers_fit sql ≡ true) × (parameters_of sql ≡ ps)
-so_far_end true ps sql [] is none so_far = (so_far.fit, so_far.all)
-so_far_end true ps sql (t ∷ ts) is none so_far = cc none
-so_far_end false ps sql texts is none so_far = cc is
-
-pub so_far_refused : (fit : Bool) (ps : List Numbered) (sql : List ℕ) (texts : List (List ℕ)) → fit ≡ false → SoFar fit ps sql texts → numbers_fit sql ≡ false
-so_far_refused true ps sql texts is so_far = cc is
-so_far_refused false ps sql texts is so_far = so_far
+pub so_far_end : (fit : Bool) (ps : List Numbered) (sql : List ℕ) (texts : List (List ℕ)) → texts ≡ [] → SoFar fit ps sql texts → (numbers_fit sql ≡ fit) × (fit ≡ true → parameters_of sql ≡ ps)
+so_far_end true ps sql [] none so_far = (so_far.fit, λ _. so_far.all)
+so_far_end true ps sql (t ∷ ts) none so_far = cc none
+so_far_end false ps sql texts none so_far = (so_far, λ is. cc is)
 
 -- the numbers from one on to the last
 numbers_from-front : (n most : ℕ) → n ≤ most → numbers_from n (most + 1 - n) ≡ n ∷ numbers_from (n + 1) (most + 1 - (n + 1))
@@ -98,24 +96,24 @@ module _ (ps : List Numbered) (args : List Value) (table : List (Option (Bor Val
   goes_refused named values failure last here goes =
       value_refused ps args named failure n (numbers_from (n + 1) (most + 1 - (n + 1))) (goes.none_missing ∙ ap (find (is_missing ps args named)) (numbers_from-front n most within)) (as_given named (Err failure) last here)
 
--- the whole answer, where the parameters were read
-pub bound-read : (sql : List ℕ) (ps : List Numbered) (args : List Value) (named : List NamedArg) → StandsFor sql ps → bound sql args named ≡ bound_values ps args named
+-- the whole answer, where the pieces were read
+bound-fit : (sql : List ℕ) (fit : Bool) (ps : List Numbered) (args : List Value) (named : List NamedArg) → unclosed_at sql ≡ None → numbers_fit sql ≡ fit → (fit ≡ true → parameters_of sql ≡ ps) → bound sql args named ≡ bound_read fit ps args named
 unfolding bound
-bound-read sql ps args named stands =
-    ap (λ o. or_unclosed o (cond (numbers_fit sql) (bound_values (parameters_of sql) args named) (Err fail.BadNumber))) stands.closed
-    ∙ cond-true (numbers_fit sql) (bound_values (parameters_of sql) args named) (Err fail.BadNumber) stands.fit
-    ∙ ap (λ qs. bound_values qs args named) stands.all
+bound-fit sql true ps args named closed fit all =
+    ap (λ o. or_unclosed o (bound_read (numbers_fit sql) (parameters_of sql) args named)) closed
+    ∙ ap (λ v. bound_read v (parameters_of sql) args named) fit
+    ∙ ap (λ qs. bound_values qs args named) (all refl)
+bound-fit sql false ps args named closed fit all =
+    ap (λ o. or_unclosed o (bound_read (numbers_fit sql) (parameters_of sql) args named)) closed
+    ∙ ap (λ v. bound_read v (parameters_of sql) args named) fit
 
--- the whole answer, where the text is refused
-pub bound-refused : (sql : List ℕ) (failure : BindFail) (args : List Value) (named : List NamedArg) → RefusesAs sql failure → AnswersAs (Err failure) (bound sql args named)
+pub bound-scanned : (sql : List ℕ) (scan : Scan) (ps : List Numbered) (args : List Value) (named : List NamedArg) → IsScanOf sql scan ps → bound sql args named ≡ bound_read scan.fit ps args named
+bound-scanned sql scan ps args named is = bound-fit sql scan.fit ps args named is.closed is.fit is.all
+
+-- the whole answer, where a piece isn't closed
+pub bound-unclosed : (sql : List ℕ) (at : ℕ) (args : List Value) (named : List NamedArg) → unclosed_at sql ≡ Some at → bound sql args named ≡ Err (fail.Unclosed at)
 unfolding bound
-bound-refused sql (fail.Unclosed at) args named is = ap (λ o. or_unclosed o (cond (numbers_fit sql) (bound_values (parameters_of sql) args named) (Err fail.BadNumber))) is
-bound-refused sql fail.BadNumber args named is =
-    ap (λ o. or_unclosed o (cond (numbers_fit sql) (bound_values (parameters_of sql) args named) (Err fail.BadNumber))) is.0
-    ∙ cond-false (numbers_fit sql) (bound_values (parameters_of sql) args named) (Err fail.BadNumber) is.1
-bound-refused sql fail.Unexpected args named is = absurd is
-bound-refused sql (fail.Missing n) args named is = absurd is
-bound-refused sql fail.NoMemory args named is = tt
+bound-unclosed sql at args named is = ap (λ o. or_unclosed o (bound_read (numbers_fit sql) (parameters_of sql) args named)) is
 
 pub expected_from : (ps : List Numbered) (args : List Value) (named : List NamedArg) → length args ≤ greatest ps → true ≡ list_all (λ arg. is_some (number_met ps arg.name)) named → all_expected ps args named ≡ true
 expected_from ps args named few meet = and_from (nat_le (length args) (greatest ps)) (list_all (λ arg. is_some (number_met ps arg.name)) named) (le-leb (length args) (greatest ps) few) (sym meet)
@@ -178,11 +176,12 @@ module _ (ps : List Numbered) where
       (given_from args (front ++ value ∷ []) rest (n + 1) (is ∙ sym (append_assoc front (value ∷ []) rest)) (omega (arith, length-append front (value ∷ []))))
 
 -- positional arguments, as many as there are numbers, are the values
-pub given_bound : (sql : List ℕ) (ps : List Numbered) (args : List Value) → StandsFor sql ps → length args ≡ greatest ps → bound sql args [] ≡ Ok args
-given_bound sql ps args stands count =
+pub given_bound : (sql : List ℕ) (scan : Scan) (ps : List Numbered) (args : List Value) → IsScanOf sql scan ps → scan.fit ≡ true → length args ≡ greatest ps → bound sql args [] ≡ Ok args
+given_bound sql scan ps args is fit count =
     let given = given_from ps args [] args 1 refl refl in
     let all : numbers_from 1 (length args) ≡ numbers_from 1 (greatest ps) = ap (numbers_from 1) count in
-    bound-read sql ps args [] stands
+    bound-scanned sql scan ps args [] is
+    ∙ ap (λ v. bound_read v ps args []) fit
     ∙ cond-true (all_expected ps args []) (or_missing (first_missing ps args []) (values_of ps args [])) (Err fail.Unexpected) (expected_from ps args [] (omega (arith, count)) refl)
     ∙ ap (λ ns. or_missing (find (is_missing ps args []) ns) (map (value_of ps args []) ns)) (sym all)
     ∙ ap (λ o. or_missing o (map (value_of ps args []) (numbers_from 1 (length args)))) given.missing

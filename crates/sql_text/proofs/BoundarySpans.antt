@@ -11,10 +11,10 @@ use Rattle.sql_text.specs.declared.class.Role.TheVariants as role
 use Rattle.sql_text.specs.declared.spans.Span.{Span}
 use Rattle.sql_text.specs.Pieces.{first_piece}
 use Rattle.sql_text.specs.Words.{role_of}
-use Rattle.sql_text.specs.Spans.{Placed, end_of, kind_of, spans_of, grown, closed_span, StandsBetween}
+use Rattle.sql_text.specs.Spans.{Placed, end_of, kind_of, spans_of, grown, closed_span, StandsBetween, spans_from}
 use Rattle.sql_text.proofs.PieceLists.{piece_stands}
 use Rattle.sql_text.proofs.BoundaryLemmas.{Cuts, first_piece_cuts}
-use Rattle.sql_text.proofs.SpanLemmas.{spans_from, from_place, placed_piece, from_place-piece, from_place-end, end_of-placed_piece, spans-skipped, spans-cuts, spans-stands, spans-end, spans_of-start}
+use Rattle.sql_text.proofs.SpanLemmas.{from_place, placed_piece, from_place-piece, from_place-end, end_of-placed_piece, spans-skipped, spans-cuts, spans-stands, spans-end, spans_of-start}
 
 -- a cut beside ASCII is one between characters
 pub cuts_boundary : (text : List ℕ) (at size : ℕ) → IsUtf8 text → 0 < size → at + size ≤ length text → Cuts (drop at text) size → IsCharBoundary text (at + size)

@@ -18,9 +18,11 @@ pub mod PieceSizes
 pub mod PieceLists
 pub mod ClassLemmas
 pub mod SpanLemmas
+pub mod FoundLemmas
 pub mod ParameterLemmas
 pub mod BindLemmas
 pub mod BoundaryLemmas
 pub mod BoundarySpans
 pub mod CutLemmas
 pub mod StatementLemmas
+pub mod PreparedLemmas

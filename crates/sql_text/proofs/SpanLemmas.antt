@@ -12,7 +12,7 @@ use Rattle.sql_text.specs.declared.spans.Span.{Span}
 use Rattle.sql_text.specs.Pieces.{Token, token, pieces, joined, ArePieces, EachIsFirst}
 use Rattle.sql_text.specs.Parts.{is_solid, is_cut, with_front, cut, left}
 use Rattle.sql_text.specs.Words.{role_of}
-use Rattle.sql_text.specs.Spans.{Placed, placed, end_of, kind_of, last_end, span_of, spans_of, first_unclosed, unclosed_at, AreInOrder, grown, closed_span, EachPieceIsItsSlice}
+use Rattle.sql_text.specs.Spans.{Placed, placed, end_of, kind_of, last_end, span_of, spans_of, first_unclosed, unclosed_at, AreInOrder, grown, closed_span, EachPieceIsItsSlice, solid, cuts, resume, spans_from}
 use Rattle.sql_text.proofs.PieceLists.{pieces-nil, each_text_has_one_list}
 
 -- what a role says of a kind
@@ -57,21 +57,6 @@ stands_is kind.Number is = (refl, refl)
 stands_is kind.Blank is = cc is
 stands_is kind.Comment is = cc is
 stands_is kind.Unclosed is = cc is
-
-abbrev solid : List Placed → List Placed
-solid ps = filter (λ p. is_solid (kind_of p)) ps
-
-abbrev pub cuts : List Placed → List (List Placed)
-cuts ps = cut kind_of (solid ps)
-
--- the spans from here on, where a span stands open, or none
-abbrev pub resume : Option Span → List (List Placed) → List Span
-resume None ps = map span_of (left kind_of ps)
-resume (Some span) [] = span ∷ []
-resume (Some span) (part ∷ ps) = record { start = span.start; end = last_end span.end part } ∷ map span_of (left kind_of ps)
-
-abbrev pub spans_from : Option Span → List Placed → List Span
-spans_from current ps = resume current (cuts ps)
 
 resume-cut : (current : Option Span) (ps : List (List Placed)) → resume current ([] ∷ ps) ≡ closed_span current ++ resume None ps
 resume-cut None ps = refl

@@ -19,12 +19,12 @@ use Rattle.sql_text.specs.Class.{class_of_words, keyword_of_token}
 use Rattle.sql_text.specs.Parameters.{is_parameter, parameter_texts, all_fit, all_numbered}
 use Rattle.sql_text.specs.Binding.{bound, bound_values, or_unclosed}
 use Rattle.sql_text.specs.declared.binding.BindFail.TheVariants as fail
-use Rattle.sql_text.specs.Spans.{Placed, placed, spans_of, is_unclosed, first_unclosed, unclosed_at, closed_span, grown}
+use Rattle.sql_text.specs.Spans.{Placed, placed, spans_of, is_unclosed, first_unclosed, unclosed_at, closed_span, grown, spans_from, resume, cuts}
 use Rattle.sql_text.specs.Statements.{IsClosed, EachRunHasItsPieces, ReadsAsItsText, EachStatementReadsAsItsText}
 use Rattle.sql_text.proofs.PieceSizes.{first_piece_within}
 use Rattle.sql_text.proofs.PieceLists.{each_text_has_one_list}
 use Rattle.sql_text.proofs.ClassLemmas.{class_of_text-words}
-use Rattle.sql_text.proofs.SpanLemmas.{spans_from, resume, cuts, spans-skipped, spans-cuts, spans-stands, spans-end}
+use Rattle.sql_text.proofs.SpanLemmas.{spans-skipped, spans-cuts, spans-stands, spans-end}
 use Rattle.sql_text.proofs.CutLemmas.{Closed, first_piece_cut}
 
 -- the same with its bytes

@@ -82,6 +82,10 @@ parameters_of sql = all_numbered [] (parameter_texts (pieces sql))
 abbrev pub numbers_fit : List ℕ → Bool
 numbers_fit sql = all_fit [] (parameter_texts (pieces sql))
 
+-- the values of parameters whose numbers fit, or the refusal
+abbrev pub bound_read : Bool → List Numbered → List Value → List NamedArg → Result (List Value) BindFail
+bound_read fit ps args named = if fit then bound_values ps args named else Err fail.BadNumber
+
 abbrev pub or_unclosed : Option ℕ → Result (List Value) BindFail → Result (List Value) BindFail
 or_unclosed None bound = bound
 or_unclosed (Some at) bound = Err (fail.Unclosed at)
@@ -91,24 +95,12 @@ or_unclosed (Some at) bound = Err (fail.Unclosed at)
 unfoldable pub bound : List ℕ → List Value → List NamedArg → Result (List Value) BindFail
 bound sql args named =
     or_unclosed (unclosed_at sql)
-    (if numbers_fit sql then bound_values (parameters_of sql) args named else Err fail.BadNumber)
+    (bound_read (numbers_fit sql) (parameters_of sql) args named)
 
 -- an answer is the expected one, unless memory ran out
 abbrev pub AnswersAs : Result (List Value) BindFail → Result (List Value) BindFail → Type 0
 AnswersAs (Err fail.NoMemory) expected = Unit {0}
 AnswersAs answer expected = expected ≡ answer
-
--- the parameters read are those of the text, all of whose pieces are closed and numbers fit
-pub record StandsFor (sql : List ℕ) (ps : List Numbered) : Type 0 where
-  pub closed : unclosed_at sql ≡ None
-  pub fit : numbers_fit sql ≡ true
-  pub all : parameters_of sql ≡ ps
-
--- the text is refused in this way, whatever the arguments
-abbrev pub RefusesAs : List ℕ → BindFail → Type 0
-RefusesAs sql (fail.Unclosed at) = unclosed_at sql ≡ Some at
-RefusesAs sql fail.BadNumber = (unclosed_at sql ≡ None) × (numbers_fit sql ≡ false)
-RefusesAs sql failure = ⊥
 
 -- what one number is given: the value, or why there is none
 abbrev pub ValueAs : Option Value → Bool → ℕ → Result Value BindFail → Type 0

@@ -1,11 +1,11 @@
 -- Where the pieces of a text stand, the spans of its parts, and the first piece that isn't closed.
-use Rattle.std.specs.Prelude.{◌≡◌, ◌<◌, ◌≤◌, ◌+◌, ℕ, Bool, true, false, List, [], ◌∷◌, map, length, Option, Some, None, if◌then◌else◌, slice_range, All}
+use Rattle.std.specs.Prelude.{◌≡◌, ◌<◌, ◌≤◌, ◌+◌, ℕ, Bool, true, false, List, [], ◌∷◌, map, filter, length, Option, Some, None, if◌then◌else◌, slice_range, All}
 use Rattle.std.specs.Str.{IsCharBoundary}
 use Rattle.sql_text.specs.declared.pieces.PieceKind.{PieceKind}
 use Rattle.sql_text.specs.declared.pieces.PieceKind.TheVariants as kind
 use Rattle.sql_text.specs.declared.spans.Span.{Span}
 use Rattle.sql_text.specs.Pieces.{Token, pieces}
-use Rattle.sql_text.specs.Parts.{parts}
+use Rattle.sql_text.specs.Parts.{is_solid, cut, left, parts}
 
 -- a piece, and the place of its first byte
 pub record Placed : Type 0 where
@@ -75,3 +75,19 @@ closed_span (Some span) = span ∷ []
 -- a span begins and ends between characters
 abbrev pub StandsBetween : List ℕ → Span → Type 0
 StandsBetween sql span = IsCharBoundary sql span.start × IsCharBoundary sql span.end
+
+abbrev pub solid : List Placed → List Placed
+solid ps = filter (λ p. is_solid (kind_of p)) ps
+
+abbrev pub cuts : List Placed → List (List Placed)
+cuts ps = cut kind_of (solid ps)
+
+-- the spans of parts, where a span stands open before them, or none
+abbrev pub resume : Option Span → List (List Placed) → List Span
+resume None ps = map span_of (left kind_of ps)
+resume (Some span) [] = span ∷ []
+resume (Some span) (part ∷ ps) = record { start = span.start; end = last_end span.end part } ∷ map span_of (left kind_of ps)
+
+-- the spans that pieces give, where a span stands open before them, or none
+abbrev pub spans_from : Option Span → List Placed → List Span
+spans_from current ps = resume current (cuts ps)

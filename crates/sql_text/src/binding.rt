@@ -4,13 +4,13 @@ ghost use Rattle.std.specs.Bool.{OnTrue};
 ghost use Rattle.std.specs.Option.{option_or, option_copied};
 ghost use Rattle.std.specs.List.{list_all};
 ghost use Rattle.hrana_stmt.specs.declared.statements.NamedArg.{NamedArg};
-ghost use Rattle.sql_text.specs.Parameters.{is_parameter, has_number, greatest};
-ghost use Rattle.sql_text.specs.Binding.{number_met, first_missing, values_of, or_missing, bound_values, parameters_of, bound, AnswersAs, StandsFor, RefusesAs, ValueAs, HasLast};
+ghost use Rattle.sql_text.specs.Parameters.{has_number, greatest};
+ghost use Rattle.sql_text.specs.Binding.{number_met, first_missing, values_of, or_missing, bound_values, bound_read, parameters_of, bound, AnswersAs, ValueAs, HasLast};
 
 use crate::limits::MAX_PARAMETERS;
-use crate::parameters::{PLACES, Parameters, take_next};
-use crate::pieces::{PieceKind, is_prefix, piece_at};
-use crate::spans::is_unclosed;
+use crate::parameters::{PLACES, Parameters};
+use crate::pieces::is_prefix;
+use crate::scan::scan_pieces;
 use hrana_stmt::NamedArg;
 use hrana_value::{NoMemory, Value, Values};
 use std::alloc::Global;
@@ -37,37 +37,6 @@ impl From<NoMemory> for BindFail {
 
     fn from(_: NoMemory) -> Self {
         BindFail::NoMemory
-    }
-}
-
-fn is_parameter(kind: PieceKind) -> bool
-    ensures { result ≡ is_parameter kind }
-{
-    matches!(kind, PieceKind::Parameter)
-}
-
-/// Reads the parameters of a text, in one pass over its pieces.
-fn read_parameters<'a>(text: &'a [u8], parameters: &mut Parameters<'a>) -> Result<(), BindFail>
-    requires empty { parameters.old ≡ [] }
-    ensures ok { OnOk result (StandsFor text.now parameters.new) }
-    ensures refused { IfErr result (RefusesAs text.now) }
-{
-    let mut fit = true;
-    let mut at = 0;
-    while at < text.len() {
-        let piece = piece_at(text, at);
-        if is_unclosed(piece.kind) {
-            return Err(BindFail::Unclosed { at });
-        }
-        if fit && is_parameter(piece.kind) {
-            fit = take_next(parameters, &text[at..piece.end]);
-        }
-        at = piece.end;
-    }
-    if fit {
-        Ok(())
-    } else {
-        Err(BindFail::BadNumber)
     }
 }
 
@@ -185,6 +154,23 @@ fn bind_numbered(
     values_by(alloc, parameters, args, &table)
 }
 
+/// The values of the parameters of a text that was read.
+pub(crate) fn bind_scanned(
+    alloc: Global,
+    fit: bool,
+    parameters: &Parameters,
+    args: &[Value],
+    named: &[NamedArg],
+) -> Result<Values, BindFail>
+    ensures { AnswersAs result (bound_read fit parameters.now args.now named.now) }
+{
+    if fit {
+        bind_numbered(alloc, parameters, args, named)
+    } else {
+        Err(BindFail::BadNumber)
+    }
+}
+
 /// The values of a text's parameters, one for each number up to the greatest. A parameter may have its value by its
 /// number or by its name.
 pub fn bind(
@@ -197,8 +183,10 @@ pub fn bind(
     ensures count { IfOk result (λ values. length values ≡ greatest (parameters_of sql.now)) }
 {
     let mut parameters = Parameters::new();
-    read_parameters(sql.as_bytes(), &mut parameters)?;
-    bind_numbered(alloc, &parameters, args, named)
+    match scan_pieces(sql.as_bytes(), &mut parameters) {
+        Ok(scan) => bind_scanned(alloc, scan.fit, &parameters, args, named),
+        Err(fail) => Err(BindFail::Unclosed { at: fail.at }),
+    }
 }
 
 /// Whether the arguments are the values of the text's parameters as they stand: all are positional, one for each number.
@@ -210,8 +198,8 @@ pub fn are_bound(sql: &str, args: &[Value], named: &[NamedArg]) -> bool
         return false;
     }
     let mut parameters = Parameters::new();
-    match read_parameters(sql.as_bytes(), &mut parameters) {
-        Ok(()) => args.len() == usize::from(parameters.greatest()),
+    match scan_pieces(sql.as_bytes(), &mut parameters) {
+        Ok(scan) => scan.fit && args.len() == usize::from(parameters.greatest()),
         Err(_) => false,
     }
 }

@@ -29,7 +29,7 @@ pub enum Class {
 
 /// The words that decide a class.
 #[derive(Clone, Copy)]
-enum Keyword {
+pub(crate) enum Keyword {
     Begin,
     Deferred,
     Immediate,
@@ -138,7 +138,7 @@ fn or_keyword(first: Keyword, other: Keyword) -> Keyword
     }
 }
 
-fn keyword_of(kind: PieceKind, bytes: &[u8]) -> Keyword
+pub(crate) fn keyword_of(kind: PieceKind, bytes: &[u8]) -> Keyword
     ensures { result ≡ keyword_of kind bytes.now }
 {
     match kind {

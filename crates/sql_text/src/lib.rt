@@ -4,9 +4,12 @@
 
 mod binding;
 mod class;
+mod class_words;
 mod limits;
 mod parameters;
 mod pieces;
+mod prepared;
+mod scan;
 mod spans;
 mod statements;
 
@@ -17,6 +20,7 @@ pub use parameters::{Parameters, next_parameter};
 pub use pieces::{
     Piece, PieceKind, PlacedPiece, each_text_has_one_list_of_pieces, first_piece, piece_at,
 };
+pub use prepared::{PrepareFail, Prepared, prepare};
 pub use spans::{Span, SplitFail, each_piece_is_its_slice, split};
 pub use statements::{
     StatementFail, each_run_has_its_pieces, each_statement_reads_as_its_text, statement_of,

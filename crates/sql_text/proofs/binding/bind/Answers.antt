@@ -1,18 +1,18 @@
-use Rattle.std.proofs.Common.{sym, subst}
-use Rattle.std.proofs.lemmas.Result.{err_from_is_err_and}
-use Rattle.sql_text.specs.Binding.{StandsFor, RefusesAs, AnswersAs}
-use Rattle.sql_text.proofs.BindLemmas.{bound-read, bound-refused, count_from}
+use Rattle.std.proofs.Common.{◌∙◌, ap, sym, subst}
+use Rattle.sql_text.specs.Spans.{unclosed_at}
+use Rattle.sql_text.specs.Binding.{AnswersAs}
+use Rattle.sql_text.specs.Found.{IsScanOf}
+use Rattle.sql_text.proofs.BindLemmas.{bound-scanned, bound-unclosed, count_from}
 use Rattle.sql_text.proofs.binding.bind.Goals as goal
 
-pub returns-in_err-read_parameters-clause-exact : goal.returns-in_err-read_parameters-clause-exact
-returns-in_err-read_parameters-clause-exact c =
-    let p = err_from_is_err_and c.from_residual.result c.from_residual.ensures.1 in
-    rw (p.1, p.2) (bound-refused c.args.sql.now c.in_err-read_parameters.field-0.0 c.args.args.now c.args.named.now (subst (λ sql. RefusesAs sql c.in_err-read_parameters.field-0.0) c.as_bytes.ensures.value c.in_err-read_parameters.ensures.refused))
+pub returns-in-Ok-clause-exact : goal.returns-in-Ok-clause-exact
+returns-in-Ok-clause-exact c =
+    let is = subst (λ sql. IsScanOf sql c.in-Ok.scan c.scan_pieces.new.parameters) c.as_bytes.ensures.value c.in-Ok.ensures.ok in
+    subst (AnswersAs c.bind_scanned.result) (sym (bound-scanned c.args.sql.now c.in-Ok.scan c.scan_pieces.new.parameters c.args.args.now c.args.named.now is)) c.bind_scanned.ensures
 
-pub returns-clause-exact : goal.returns-clause-exact
-returns-clause-exact c =
-    let stands = subst (λ sql. StandsFor sql c.read_parameters.new.parameters) c.as_bytes.ensures.value c.in_ok-read_parameters.ensures.ok in
-    subst (AnswersAs c.bind_numbered.result) (sym (bound-read c.args.sql.now c.read_parameters.new.parameters c.args.args.now c.args.named.now stands)) c.bind_numbered.ensures
+pub returns-in-Ok-clause-count : goal.returns-in-Ok-clause-count
+returns-in-Ok-clause-count c = count_from c.args.sql.now c.args.args.now c.args.named.now c.bind_scanned.result (returns-in-Ok-clause-exact c)
 
-pub returns-clause-count : goal.returns-clause-count
-returns-clause-count c = count_from c.args.sql.now c.args.args.now c.args.named.now c.bind_numbered.result (returns-clause-exact c)
+pub returns-in-Err-clause-exact : goal.returns-in-Err-clause-exact
+returns-in-Err-clause-exact c =
+    bound-unclosed c.args.sql.now c.in-Err.fail.at c.args.args.now c.args.named.now (ap unclosed_at (sym c.as_bytes.ensures.value) ∙ c.in-Err.ensures.unclosed)

@@ -1,8 +1,8 @@
 use Rattle.std.proofs.Common.{◌≡◌, ◌∙◌, ◌++◌, sym, ap, subst, length}
-use Rattle.sql_text.specs.Spans.{spans_of, unclosed_at, first_unclosed, AreInOrder, StandsBetween}
+use Rattle.sql_text.specs.Spans.{spans_of, spans_from, unclosed_at, first_unclosed, AreInOrder, StandsBetween}
 use Rattle.std.specs.Prelude.{All}
 use Rattle.sql_text.proofs.BoundarySpans.{spans_of-between}
-use Rattle.sql_text.proofs.SpanLemmas.{spans_of-start, unclosed_at-start, spans_of-in_order, spans-end, spans_from, from_place-end}
+use Rattle.sql_text.proofs.SpanLemmas.{spans_of-start, unclosed_at-start, spans_of-in_order, spans-end, from_place-end}
 use Rattle.sql_text.proofs.spans.split.Goals as goal
 use Rattle.sql_text.proofs.spans.split.Goals.{In_ok-close}
 

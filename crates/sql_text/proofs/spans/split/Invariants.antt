@@ -1,6 +1,6 @@
 use Rattle.std.proofs.Common.{◌≡◌, ◌-◌, ◌++◌, length}
-use Rattle.sql_text.specs.Spans.{spans_of, unclosed_at, first_unclosed}
-use Rattle.sql_text.proofs.SpanLemmas.{spans_from, from_place}
+use Rattle.sql_text.specs.Spans.{spans_of, spans_from, unclosed_at, first_unclosed}
+use Rattle.sql_text.proofs.SpanLemmas.{from_place}
 use Rattle.sql_text.proofs.spans.split.Given as goal
 
 abbrev pub invariant-loop-at : goal.invariant-loop-at
