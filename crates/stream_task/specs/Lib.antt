@@ -4,3 +4,7 @@ pub mod Table
 pub mod Effect
 pub mod Moved
 pub mod Adds
+pub mod Steps
+pub mod Doing
+pub mod Means
+pub mod Advance

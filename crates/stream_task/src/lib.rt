@@ -2,11 +2,17 @@
 //! one statement and adds at most one entry, of this stream.
 #![tactic(auto)]
 
+mod advance;
+mod cutting;
 mod outcomes;
+mod replies;
 mod session;
+mod steps;
 mod table;
 mod texts;
+mod todo;
 mod turns;
+mod work;
 
 pub use session::{Cause, TxnState};
 pub use texts::{StoredText, StoredTexts};

@@ -13,7 +13,7 @@ use hrana_value::{NoMemory, Values};
 use std::alloc::Global;
 
 /// What a begin, commit or rollback gives.
-fn empty_result(alloc: Global) -> StmtResult
+pub(crate) fn empty_result(alloc: Global) -> StmtResult
     ensures { result ≡ empty_result }
 {
     StmtResult {

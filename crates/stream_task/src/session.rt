@@ -1,3 +1,7 @@
+// The state of a stream's transaction.
+ghost use Rattle.std.specs.Prelude.{◌≡◌};
+ghost use Rattle.stream_task.specs.Session.{is_auto, is_shut};
+
 /// Why a stream died.
 #[derive(Clone, Copy, Debug, PartialEq, Eq)]
 pub enum Cause {
@@ -26,4 +30,18 @@ pub enum TxnState {
     Dead(Cause),
     /// The stream was closed.
     Closed,
+}
+
+/// Whether each statement is a transaction of its own.
+pub(crate) fn is_auto(state: TxnState) -> bool
+    ensures { result ≡ is_auto state }
+{
+    matches!(state, TxnState::Auto)
+}
+
+/// Whether the stream does no more than answer.
+pub(crate) fn is_shut(state: TxnState) -> bool
+    ensures { result ≡ is_shut state }
+{
+    matches!(state, TxnState::Dead(_) | TxnState::Closed)
 }
