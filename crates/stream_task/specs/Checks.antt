@@ -64,6 +64,11 @@ pub record IsReadyOf (expected : Result Prepared Code) (stmt : BoundStmt) : Type
   pub passed : expected ≡ Ok ready
   pub is_ready : IsReady ready stmt
 
+-- why a statement that isn't prepared isn't run
+abbrev pub check_fail_of : PrepareFail → CheckFail
+check_fail_of fail.NoMemory = check.NoMemory
+check_fail_of refusal = check.Refused (code_of_fail refusal)
+
 -- the statement that passed, or the code of the check that refuses it, unless memory ran out
 abbrev pub ChecksAs : Result Prepared Code → Result BoundStmt CheckFail → Type 0
 ChecksAs expected (Ok stmt) = IsReadyOf expected stmt

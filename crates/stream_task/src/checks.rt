@@ -1,8 +1,7 @@
 // The checks of a statement, before an engine is asked.
-ghost use Rattle.std.specs.Prelude.{◌≡◌, IfOk};
+ghost use Rattle.std.specs.Prelude.{◌≡◌, None, IfOk};
 ghost use Rattle.sql_text.specs.Prepared.{class_refused};
-ghost use Rattle.stream_task.specs.Checks.{code_of_fail, ready_of, ChecksAs};
-ghost use Rattle.std.specs.Prelude.{None};
+ghost use Rattle.stream_task.specs.Checks.{check_fail_of, ready_of, ChecksAs};
 
 use crate::texts::{StoredTexts, text_of};
 use engine_core::BoundStmt;
@@ -18,17 +17,17 @@ pub(crate) enum CheckFail {
     NoMemory,
 }
 
-fn code_of(fail: PrepareFail) -> Code
-    ensures { result ≡ code_of_fail fail }
+fn fail_of(fail: PrepareFail) -> CheckFail
+    ensures { result ≡ check_fail_of fail }
 {
     match fail {
-        PrepareFail::Unclosed { .. } => Code::SqlOpen,
-        PrepareFail::Empty => Code::NoStatement,
-        PrepareFail::Many => Code::ManyStatements,
-        PrepareFail::Savepoint => Code::SavepointUnsupported,
-        PrepareFail::Barred => Code::SqlUnsupported,
-        PrepareFail::Args => Code::Args,
-        PrepareFail::NoMemory => Code::NoMemory,
+        PrepareFail::Unclosed { .. } => CheckFail::Refused(Code::SqlOpen),
+        PrepareFail::Empty => CheckFail::Refused(Code::NoStatement),
+        PrepareFail::Many => CheckFail::Refused(Code::ManyStatements),
+        PrepareFail::Savepoint => CheckFail::Refused(Code::SavepointUnsupported),
+        PrepareFail::Barred => CheckFail::Refused(Code::SqlUnsupported),
+        PrepareFail::Args => CheckFail::Refused(Code::Args),
+        PrepareFail::NoMemory => CheckFail::NoMemory,
     }
 }
 
@@ -46,7 +45,6 @@ pub(crate) fn check(
     };
     match prepare(alloc, text, stmt.args.as_slice(), stmt.named.as_slice()) {
         Ok(Prepared { sql, class, values }) => Ok(BoundStmt { sql, class, values }),
-        Err(PrepareFail::NoMemory) => Err(CheckFail::NoMemory),
-        Err(fail) => Err(CheckFail::Refused(code_of(fail))),
+        Err(fail) => Err(fail_of(fail)),
     }
 }
