@@ -16,7 +16,8 @@ use Rattle.engine_core.specs.declared.entries.Entry.{Entry}
 use Rattle.engine_core.specs.declared.entries.Entry.TheVariants as entry
 use Rattle.engine_core.specs.declared.entries.How.TheVariants as how
 use Rattle.engine_core.specs.declared.entries.Undo.{Undo}
-use Rattle.stream_task.specs.Checks.{Ready, IsReady, ready_of}
+use Rattle.sql_text.specs.declared.prepared.Prepared.{Prepared}
+use Rattle.stream_task.specs.Checks.{IsReady, ready_of}
 use Rattle.stream_task.specs.Effect.{Effects, faults_by, RefusesByCause}
 use Rattle.stream_task.specs.Moved.{Moved}
 use Rattle.stream_task.specs.Table.{plan, wants_turn, Seen, MayAdd, takes, empty_result, state_after}
@@ -63,7 +64,7 @@ pub record AddsOne {X D : Type 0} (told : Bool) (m : Meaning D BoundStmt Answer)
 -- ---- a statement
 
 -- the row adds this entry, which means this to the statement
-pub record Acts (stream : StreamNo) (seen : Seen) (state : TxnState) (want_rows : Bool) (ready : Ready) (row : Row) (e : Entry) (went : Went) : Type 0 where
+pub record Acts (stream : StreamNo) (seen : Seen) (state : TxnState) (want_rows : Bool) (ready : Prepared) (row : Row) (e : Entry) (went : Went) : Type 0 where
   pub stmt : BoundStmt
   pub is_ready : IsReady ready stmt
   -- nobody writes, where the row is to write
@@ -79,28 +80,28 @@ pub record IsHeld (stream : StreamNo) (seen : Seen) (row : Row) (went : Went) : 
   pub held : seen.by ≡ Some by
   pub other : by ≢ stream
 
-abbrev pub RowPolls : StreamNo → Seen → TxnState → Bool → Ready → Row → Option Entry → Went → Type 0
+abbrev pub RowPolls : StreamNo → Seen → TxnState → Bool → Prepared → Row → Option Entry → Went → Type 0
 RowPolls stream seen state want_rows ready row None went = IsHeld stream seen row went
 RowPolls stream seen state want_rows ready row (Some e) went = Acts stream seen state want_rows ready row e went
 
-abbrev pub PlanPolls : StreamNo → Seen → TxnState → Bool → Ready → Plan → Option Entry → Went → Type 0
+abbrev pub PlanPolls : StreamNo → Seen → TxnState → Bool → Prepared → Plan → Option Entry → Went → Type 0
 PlanPolls stream seen state want_rows ready (Refuses code) added went = (added ≡ None) × (went ≡ Out (outcome.Failed (error_of code)) state)
 PlanPolls stream seen state want_rows ready (Becomes next) added went = (added ≡ None) × (went ≡ Out (outcome.Done empty_result) next)
 PlanPolls stream seen state want_rows ready (Adds row) added went = RowPolls stream seen state want_rows ready row added went
 
 -- by what the checks say
-abbrev pub ReadyPolls : Bool → StreamNo → Seen → TxnState → Bool → Result Ready Code → Option Entry → Went → Type 0
+abbrev pub ReadyPolls : Bool → StreamNo → Seen → TxnState → Bool → Result Prepared Code → Option Entry → Went → Type 0
 ReadyPolls shared stream seen state want_rows (Err code) added went = (added ≡ None) × (went ≡ Out (outcome.Failed (error_of code)) state)
 ReadyPolls shared stream seen state want_rows (Ok ready) added went = PlanPolls stream seen state want_rows ready (plan shared state ready.class) added went
 
 -- A poll that found no memory: before the engine was called, and the state is as it was; or after it, and the entry stands with
 -- the state that it leaves.
-pub record FallsAfter (shared : Bool) (stream : StreamNo) (seen : Seen) (state : TxnState) (want_rows : Bool) (ready : Result Ready Code) (e : Entry) (left : TxnState) : Type 0 where
+pub record FallsAfter (shared : Bool) (stream : StreamNo) (seen : Seen) (state : TxnState) (want_rows : Bool) (ready : Result Prepared Code) (e : Entry) (left : TxnState) : Type 0 where
   pub went : Went
   pub polls : ReadyPolls shared stream seen state want_rows ready (Some e) went
   pub left_is : state_after state went ≡ left
 
-abbrev pub Falls : Bool → StreamNo → Seen → TxnState → Bool → Result Ready Code → Option Entry → TxnState → Type 0
+abbrev pub Falls : Bool → StreamNo → Seen → TxnState → Bool → Result Prepared Code → Option Entry → TxnState → Type 0
 Falls shared stream seen state want_rows ready None left = left ≡ state
 Falls shared stream seen state want_rows ready (Some e) left = FallsAfter shared stream seen state want_rows ready e left
 

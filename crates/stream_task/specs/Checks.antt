@@ -1,21 +1,19 @@
 -- The checks of a statement, before an engine is asked: the code of the first that stands, or the statement with a value
 -- for each of its parameters.
-use Rattle.std.specs.Prelude.{◌≡◌, ℕ, ℤ, List, [], ◌∷◌, Option, None, Some, Result, Ok, Err, slice_range, if◌then◌else◌}
+use Rattle.std.specs.Prelude.{◌≡◌, ℕ, ℤ, List, [], ◌∷◌, Option, None, Some, Result, Ok, Err, if◌then◌else◌}
 use Rattle.std.specs.Ordering.{int_eq}
-use Rattle.hrana_value.specs.declared.value.Value.{Value}
 use Rattle.hrana_stmt.specs.declared.codes.Code.{Code}
-use Rattle.hrana_stmt.specs.declared.codes.Code.TheVariants.{NoSqlId, SqlOpen, NoStatement, ManyStatements, SavepointUnsupported, SqlUnsupported, Args}
+use Rattle.hrana_stmt.specs.declared.codes.Code.TheVariants as code
 use Rattle.hrana_stmt.specs.declared.statements.Stmt.{Stmt}
 use Rattle.hrana_stmt.specs.declared.statements.SqlRef.{SqlRef}
 use Rattle.hrana_stmt.specs.declared.statements.SqlRef.TheVariants as sql
-use Rattle.sql_text.specs.declared.class.Class.{Class}
-use Rattle.sql_text.specs.declared.class.Class.TheVariants as class
-use Rattle.sql_text.specs.declared.spans.Span.{Span}
-use Rattle.sql_text.specs.declared.binding.BindFail.{BindFail}
-use Rattle.sql_text.specs.Binding.{bound}
-use Rattle.sql_text.specs.Class.{class_of_text}
-use Rattle.sql_text.specs.Spans.{spans_of, unclosed_at}
+use Rattle.sql_text.specs.declared.prepared.Prepared.{Prepared}
+use Rattle.sql_text.specs.declared.prepared.PrepareFail.{PrepareFail}
+use Rattle.sql_text.specs.declared.prepared.PrepareFail.TheVariants as fail
+use Rattle.sql_text.specs.Prepared.{prepared_of}
 use Rattle.engine_core.specs.declared.statement.BoundStmt.{BoundStmt}
+use Rattle.stream_task.specs.declared.checks.CheckFail.{CheckFail}
+use Rattle.stream_task.specs.declared.checks.CheckFail.TheVariants as check
 use Rattle.stream_task.specs.declared.texts.StoredText.{StoredText}
 
 -- ---- the text
@@ -32,52 +30,47 @@ text_of texts (sql.Id id) = stored_text id texts
 
 -- ---- the statement of a text
 
--- a statement that passed the checks: its text, its class, and its values
-pub record Ready : Type 0 where
-  pub sql : List ℕ
-  pub class : Class
-  pub values : List Value
+-- the code with which a statement fails that isn't prepared
+abbrev pub code_of_fail : PrepareFail → Code
+code_of_fail (fail.Unclosed at) = code.SqlOpen
+code_of_fail fail.Empty = code.NoStatement
+code_of_fail fail.Many = code.ManyStatements
+code_of_fail fail.Savepoint = code.SavepointUnsupported
+code_of_fail fail.Barred = code.SqlUnsupported
+code_of_fail fail.Args = code.Args
+code_of_fail fail.NoMemory = code.NoMemory
+
+abbrev pub coded : Result Prepared PrepareFail → Result Prepared Code
+coded (Ok prepared) = Ok prepared
+coded (Err refusal) = Err (code_of_fail refusal)
+
+abbrev pub ready_of_text : Stmt → Option (List ℕ) → Result Prepared Code
+ready_of_text stmt None = Err code.NoSqlId
+ready_of_text stmt (Some text) = coded (prepared_of text stmt.args stmt.named)
+
+-- What the checks say of a statement, in this order: its text isn't stored, a quote or comment isn't closed, there is no
+-- statement, or more than one, it is of savepoints, or isn't supported, or its arguments don't match its parameters.
+unfoldable pub ready_of : List StoredText → Stmt → Result Prepared Code
+ready_of texts stmt = ready_of_text stmt (text_of texts stmt.sql)
 
 -- the statement that an engine is given is the one that passed
-pub record IsReady (ready : Ready) (stmt : BoundStmt) : Type 0 where
+pub record IsReady (ready : Prepared) (stmt : BoundStmt) : Type 0 where
   pub sql : stmt.sql ≡ ready.sql
   pub class : stmt.class ≡ ready.class
   pub values : stmt.values ≡ ready.values
 
--- the span of the one statement of a text, by its open piece and its spans
-abbrev pub one_span : Option ℕ → List Span → Result Span Code
-one_span (Some at) spans = Err SqlOpen
-one_span None [] = Err NoStatement
-one_span None (span ∷ []) = Ok span
-one_span None (span ∷ other ∷ spans) = Err ManyStatements
+pub record IsReadyOf (expected : Result Prepared Code) (stmt : BoundStmt) : Type 0 where
+  pub ready : Prepared
+  pub passed : expected ≡ Ok ready
+  pub is_ready : IsReady ready stmt
 
--- what is refused of a class. The text of a statement isn't empty.
-abbrev pub class_refused : Class → Option Code
-class_refused class.Savepoint = Some SavepointUnsupported
-class_refused class.Barred = Some SqlUnsupported
-class_refused class.Empty = Some NoStatement
-class_refused c = None
+-- why a statement that isn't prepared isn't run
+abbrev pub check_fail_of : PrepareFail → CheckFail
+check_fail_of fail.NoMemory = check.NoMemory
+check_fail_of refusal = check.Refused (code_of_fail refusal)
 
-abbrev pub with_values : List ℕ → Class → Result (List Value) BindFail → Result Ready Code
-with_values text c (Ok values) = Ok (record { sql = text; class = c; values = values })
-with_values text c (Err fail) = Err Args
-
--- the statement of this text and class, by what is refused of its class
-abbrev pub ready_by_class : Stmt → List ℕ → Class → Option Code → Result Ready Code
-ready_by_class stmt text c (Some code) = Err code
-ready_by_class stmt text c None = with_values text c (bound text stmt.args stmt.named)
-
-abbrev pub ready_at : Stmt → List ℕ → Result Span Code → Result Ready Code
-ready_at stmt text (Err code) = Err code
-ready_at stmt text (Ok span) =
-    let cut : List ℕ = slice_range text span.start span.end in
-    ready_by_class stmt cut (class_of_text cut) (class_refused (class_of_text cut))
-
-abbrev pub ready_of_text : Stmt → Option (List ℕ) → Result Ready Code
-ready_of_text stmt None = Err NoSqlId
-ready_of_text stmt (Some text) = ready_at stmt text (one_span (unclosed_at text) (spans_of text))
-
--- What the checks say of a statement, in this order: its text isn't stored, a quote or comment isn't closed, there is no
--- statement, or more than one, it is of savepoints, or isn't supported, or its arguments don't match its parameters.
-unfoldable pub ready_of : List StoredText → Stmt → Result Ready Code
-ready_of texts stmt = ready_of_text stmt (text_of texts stmt.sql)
+-- the statement that passed, or the code of the check that refuses it, unless memory ran out
+abbrev pub ChecksAs : Result Prepared Code → Result BoundStmt CheckFail → Type 0
+ChecksAs expected (Ok stmt) = IsReadyOf expected stmt
+ChecksAs expected (Err (check.Refused refusal)) = expected ≡ Err refusal
+ChecksAs expected (Err check.NoMemory) = Unit {0}

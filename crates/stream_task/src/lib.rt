@@ -3,6 +3,7 @@
 #![tactic(auto)]
 
 mod advance;
+mod checks;
 mod cutting;
 mod outcomes;
 mod replies;
