@@ -19,8 +19,11 @@ pub record Session : Type 0 where
   -- the stored texts that statements may name
   pub texts : List StoredText
 
+abbrev pub session_in : List StoredText → TxnState → Session
+session_in texts state = record { state = state; texts = texts }
+
 abbrev pub in_state : Session → TxnState → Session
-in_state session next = record { state = next; texts = session.texts }
+in_state session next = session_in session.texts next
 
 -- ---- the statements of a sequence
 

@@ -8,3 +8,5 @@ pub mod Steps
 pub mod Doing
 pub mod Means
 pub mod Advance
+pub mod Polls
+pub mod Laws

@@ -10,18 +10,20 @@ use Rattle.hrana_batch.specs.declared.outcomes.Outcome.TheVariants as outcome
 use Rattle.stream_requests.specs.declared.replies.Reply.{Reply}
 use Rattle.stream_requests.specs.declared.replies.Reply.TheVariants as reply
 use Rattle.sql_text.specs.declared.class.Class.{Class}
+use Rattle.sql_text.specs.declared.prepared.Prepared.{Prepared}
 use Rattle.sql_text.specs.Spans.{unclosed_at}
 use Rattle.engine_core.specs.declared.entries.Entry.{Entry}
 use Rattle.engine_core.specs.declared.entries.Entry.TheVariants as entry
 use Rattle.engine_core.specs.declared.entries.How.TheVariants as how
 use Rattle.engine_core.specs.declared.entries.Undo.TheVariants as undo
 use Rattle.stream_task.specs.Session.{is_auto, is_shut, unit_of}
-use Rattle.stream_task.specs.Checks.{Ready, ready_of, text_of}
+use Rattle.stream_task.specs.Checks.{ready_of, text_of}
 use Rattle.stream_task.specs.Table.{plan, takes, empty_result}
 use Rattle.stream_task.specs.Steps.{is_skipped}
-use Rattle.stream_task.specs.Doing.{Session, in_state, steps_of_text}
+use Rattle.stream_task.specs.Doing.{Session, session_in, in_state, steps_of_text}
 use Rattle.stream_task.specs.declared.session.TxnState.{TxnState}
 use Rattle.stream_task.specs.declared.session.TxnState.TheVariants.{Closed}
+use Rattle.stream_task.specs.declared.texts.StoredText.{StoredText}
 use Rattle.stream_task.specs.declared.table.Plan.{Plan}
 use Rattle.stream_task.specs.declared.table.Plan.TheVariants.{Refuses, Becomes, Adds}
 use Rattle.stream_task.specs.declared.table.Went.{Went}
@@ -88,7 +90,7 @@ class_means shared had want_rows c [] state = took_without (plan shared state c)
 class_means shared had want_rows c (e ∷ es) state = took_with had want_rows (plan shared state c) state e es (λ next. class_means shared had want_rows c es next)
 
 -- by what the checks say
-abbrev pub ready_means : Bool → (ℕ → ℕ) → Bool → Result Ready Code → List Entry → TxnState → Taken
+abbrev pub ready_means : Bool → (ℕ → ℕ) → Bool → Result Prepared Code → List Entry → TxnState → Taken
 ready_means shared had want_rows (Err c) es state = took (outcome.Failed (error_of c)) state es
 ready_means shared had want_rows (Ok ready) es state = class_means shared had want_rows ready.class es state
 
@@ -104,21 +106,21 @@ pub data Meant : Type 0 where
   -- an entry isn't one of this request
   wrong : Meant
 
-abbrev pub execute_means : Session → Taken → Meant
-execute_means s (short next) = cut [] (in_state s next)
-execute_means s (took o next rest) = said (executed o) (in_state s next) rest
-execute_means s (broke c next rest) = said (failed c) (in_state s next) rest
-execute_means s unfit = wrong
+abbrev pub execute_means : List StoredText → Taken → Meant
+execute_means texts (short next) = cut [] (session_in texts next)
+execute_means texts (took o next rest) = said (executed o) (session_in texts next) rest
+execute_means texts (broke c next rest) = said (failed c) (session_in texts next) rest
+execute_means texts unfit = wrong
 
 abbrev pub said_or : Option Reply → Session → List Entry → Meant → Meant
 said_or (Some r) s rest more = said r s rest
 said_or None s rest more = more
 
-abbrev pub then_means : Kind → List Outcome → Session → Taken → (Outcome → Session → List Entry → Meant) → Meant
-then_means k done s (short next) more = cut done (in_state s next)
-then_means k done s (took o next rest) more = said_or (ends_with k o) (in_state s next) rest (more o (in_state s next) rest)
-then_means k done s (broke c next rest) more = said (failed c) (in_state s next) rest
-then_means k done s unfit more = wrong
+abbrev pub then_means : Kind → List Outcome → List StoredText → Taken → (Outcome → Session → List Entry → Meant) → Meant
+then_means k done texts (short next) more = cut done (session_in texts next)
+then_means k done texts (took o next rest) more = said_or (ends_with k o) (session_in texts next) rest (more o (session_in texts next) rest)
+then_means k done texts (broke c next rest) more = said (failed c) (session_in texts next) rest
+then_means k done texts unfit more = wrong
 
 -- The steps in turn. One is skipped exactly where it has a condition that is false on the outcomes before it and on whether
 -- the session is in autocommit. Otherwise its outcome is that of its statement, which takes its entries from the front.
@@ -126,7 +128,7 @@ abbrev pub steps_mean : Bool → (ℕ → ℕ) → Kind → List Step → List O
 steps_mean shared had k [] done s es = said (reply_of k done) s es
 steps_mean shared had k (x ∷ xs) done s es =
     if is_skipped x.condition done (is_auto s.state) then steps_mean shared had k xs (done ++ outcome.Skipped ∷ []) s es
-    else then_means k done s (statement_means shared had s x.stmt es) (λ o next rest. steps_mean shared had k xs (done ++ o ∷ []) next rest)
+    else then_means k done s.texts (statement_means shared had s x.stmt es) (λ o next rest. steps_mean shared had k xs (done ++ o ∷ []) next rest)
 
 -- a sequence whose text is closed, or has an open quote or comment
 abbrev pub closed_means : Bool → (ℕ → ℕ) → List ℕ → Option ℕ → Session → List Entry → Meant
@@ -148,7 +150,7 @@ close_means None s es = said reply.Closed (in_state s Closed) es
 close_means (Some unit) s es = undo_means s es
 
 abbrev pub running_means : Bool → (ℕ → ℕ) → Session → Running → List Entry → Meant
-running_means shared had s (Statement stmt) es = execute_means s (statement_means shared had s stmt es)
+running_means shared had s (Statement stmt) es = execute_means s.texts (statement_means shared had s stmt es)
 running_means shared had s (Steps k r) es = steps_mean shared had k r.left r.done s es
 
 -- in a session that is neither dead nor closed

@@ -5,15 +5,19 @@
 mod advance;
 mod checks;
 mod cutting;
+mod laws;
 mod outcomes;
 mod replies;
 mod session;
 mod steps;
 mod table;
+mod task;
 mod texts;
 mod todo;
 mod turns;
 mod work;
 
+pub use laws::{each_poll_leaves_the_meaning, each_reply_is_meant, replies_stand_in_order};
 pub use session::{Cause, TxnState};
+pub use task::{Poll, Stepped};
 pub use texts::{StoredText, StoredTexts};

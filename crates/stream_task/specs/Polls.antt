@@ -1,0 +1,82 @@
+-- One poll of a stream: the entry that it adds, what it answers, and the stream after it.
+use Rattle.std.specs.Prelude.{◌≡◌, Bool, true, false, List, [], ◌∷◌, Option, None}
+use Rattle.hrana_value.specs.declared.StreamNo.{StreamNo}
+use Rattle.engine_core.specs.declared.entries.Entry.{Entry}
+use Rattle.engine_core.specs.declared.entries.Undo.{Undo}
+use Rattle.engine_core.specs.declared.entries.Undo.TheVariants as undo
+use Rattle.stream_task.specs.Table.{Seen}
+use Rattle.stream_task.specs.Doing.{Session, in_state}
+use Rattle.stream_task.specs.Advance.{PollsWork}
+use Rattle.stream_task.specs.declared.session.Cause.{Cause}
+use Rattle.stream_task.specs.declared.session.Cause.TheVariants as cause
+use Rattle.stream_task.specs.declared.session.TxnState.{TxnState}
+use Rattle.stream_task.specs.declared.session.TxnState.TheVariants.{Dead}
+use Rattle.stream_task.specs.declared.work.Work.{Work}
+use Rattle.stream_task.specs.declared.advance.Advanced.{Advanced}
+use Rattle.stream_task.specs.declared.advance.Advanced.TheVariants.{Waits, Ran, Replied, Broke}
+use Rattle.stream_task.specs.declared.task.Poll.{Poll}
+use Rattle.stream_task.specs.declared.task.Poll.TheVariants.{Ready, Pending}
+use Rattle.stream_task.specs.declared.task.Stepped.{Stepped}
+use Rattle.stream_task.specs.declared.task.Stepped.TheVariants as stepped
+
+pub record Task : Type 0 where
+  pub stream : StreamNo
+  pub session : Session
+  -- the requests that wait for polls, in the order in which they came; the first may be running
+  pub asks : List Work
+
+abbrev pub with_asks : Task → TxnState → List Work → Task
+with_asks task state asks = record { stream = task.stream; session = in_state task.session state; asks = asks }
+
+abbrev pub is_waiting : List Work → Bool
+is_waiting [] = false
+is_waiting (w ∷ ws) = true
+
+abbrev pub answer_of : Advanced → Poll Stepped
+answer_of (Waits w) = Pending
+answer_of (Ran w next) = Ready stepped.Ran
+answer_of (Replied r next) = Ready (stepped.Replied r)
+answer_of (Broke next) = Ready stepped.Broke
+
+-- the stream after a poll of its first request, where these come behind it. One that met want of memory has none left.
+abbrev pub task_after : Task → List Work → Advanced → Task
+task_after task rest (Waits w) = with_asks task task.session.state (w ∷ rest)
+task_after task rest (Ran w next) = with_asks task next (w ∷ rest)
+task_after task rest (Replied r next) = with_asks task next rest
+task_after task rest (Broke next) = with_asks task next []
+
+pub record PollsFirst (shared : Bool) (seen : Seen) (old : Task) (w : Work) (rest : List Work) (added : Option Entry) (result : Poll Stepped) (new : Task) : Type 0 where
+  pub advanced : Advanced
+  pub polls : PollsWork shared old.stream seen old.session w added advanced
+  pub answer : result ≡ answer_of advanced
+  pub after : new ≡ task_after old rest advanced
+
+pub record IsIdle (old : Task) (added : Option Entry) (result : Poll Stepped) (new : Task) : Type 0 where
+  pub no_entry : added ≡ None
+  pub answer : result ≡ Ready stepped.Idle
+  pub same : new ≡ old
+
+abbrev pub PollsAsks : Bool → Seen → Task → List Work → Option Entry → Poll Stepped → Task → Type 0
+PollsAsks shared seen old [] added result new = IsIdle old added result new
+PollsAsks shared seen old (w ∷ rest) added result new = PollsFirst shared seen old w rest added result new
+
+-- one poll of a stream, over an engine that shares or doesn't
+abbrev pub Polls : Bool → Seen → Task → Option Entry → Poll Stepped → Task → Type 0
+Polls shared seen old added result new = PollsAsks shared seen old old.asks added result new
+
+abbrev pub is_pending : Poll Stepped → Bool
+is_pending Pending = true
+is_pending (Ready answer) = false
+
+abbrev pub waits_on : Advanced → Bool
+waits_on (Waits w) = true
+waits_on result = false
+
+-- ---- the end of a stream from outside
+
+abbrev pub dead_cause : Undo → Cause
+dead_cause undo.Expired = cause.Expired
+dead_cause why = cause.Lost
+
+abbrev pub ended : Undo → Task → Task
+ended why old = with_asks old (Dead (dead_cause why)) []
