@@ -2,5 +2,10 @@
 --   check                                     checks/check, by CheckLemmas
 --   StepRun                                   steps/StepRun, by StepLemmas
 --   sequence_of_text                          cutting/, by StepLemmas
+--   each_poll_leaves_the_meaning, each_reply_is_meant      laws/, by RequestLemmas over MeansLemmas
+--   replies_stand_in_order                    laws/, by TaskLemmas
 pub mod CheckLemmas
 pub mod StepLemmas
+pub mod MeansLemmas
+pub mod RequestLemmas
+pub mod TaskLemmas
