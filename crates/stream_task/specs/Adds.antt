@@ -20,7 +20,7 @@ use Rattle.sql_text.specs.declared.prepared.Prepared.{Prepared}
 use Rattle.stream_task.specs.Checks.{IsReady, ready_of}
 use Rattle.stream_task.specs.Effect.{Effects, faults_by, RefusesByCause}
 use Rattle.stream_task.specs.Moved.{Moved}
-use Rattle.stream_task.specs.Table.{plan, wants_turn, Seen, MayAdd, takes, empty_result, state_after}
+use Rattle.stream_task.specs.Table.{plan, wants_turn, Seen, MayAdd, takes, empty_result, left_by}
 use Rattle.stream_task.specs.declared.session.Cause.{Cause}
 use Rattle.stream_task.specs.declared.session.TxnState.{TxnState}
 use Rattle.stream_task.specs.declared.session.TxnState.TheVariants.{Reading, Writing}
@@ -99,7 +99,7 @@ ReadyPolls shared stream seen state want_rows (Ok ready) added went = PlanPolls 
 pub record FallsAfter (shared : Bool) (stream : StreamNo) (seen : Seen) (state : TxnState) (want_rows : Bool) (ready : Result Prepared Code) (e : Entry) (left : TxnState) : Type 0 where
   pub went : Went
   pub polls : ReadyPolls shared stream seen state want_rows ready (Some e) went
-  pub left_is : state_after state went ≡ left
+  pub left_is : left_by went ≡ Some left
 
 abbrev pub Falls : Bool → StreamNo → Seen → TxnState → Bool → Result Prepared Code → Option Entry → TxnState → Type 0
 Falls shared stream seen state want_rows ready None left = left ≡ state

@@ -1,5 +1,5 @@
 -- The table of polls: what a statement does in a session, which entry may come of it, and what that entry means.
-use Rattle.std.specs.Prelude.{◌≡◌, ◌<◌, ◌≤◌, ℕ, ◌&&◌, IsTrue, Bool, true, false, not, cond, [], Option, Some, None, IsSomeAnd}
+use Rattle.std.specs.Prelude.{◌≡◌, ◌<◌, ◌≤◌, ℕ, ◌&&◌, IsTrue, Bool, true, false, not, cond, [], Option, Some, None, IsSomeAnd, Result, Ok, Err}
 use Rattle.hrana_value.specs.declared.StreamNo.{StreamNo}
 use Rattle.hrana_stmt.specs.declared.codes.Code.{Code}
 use Rattle.hrana_stmt.specs.declared.codes.Code.TheVariants as code
@@ -194,10 +194,16 @@ takes_alone want_rows state (entry.Alone by ran given has_written) = Some (Out (
 takes_alone want_rows state (entry.Failed by None why) = Some (Stopped (code_of why) state)
 takes_alone want_rows state e = None
 
-abbrev pub takes_begun : TxnState → (ℕ → Went) → Entry → Option Went
-takes_begun state begun (entry.Began unit by) = Some (begun unit)
-takes_begun state begun (entry.Failed by None why) = Some (Stopped (code_of why) state)
-takes_begun state begun e = None
+-- the unit that began, or the code with which the request is answered
+abbrev pub begun_by : Entry → Option (Result ℕ Code)
+begun_by (entry.Began unit by) = Some (Ok unit)
+begun_by (entry.Failed by None why) = Some (Err (code_of why))
+begun_by e = None
+
+abbrev pub takes_begun : TxnState → (ℕ → Went) → Option (Result ℕ Code) → Option Went
+takes_begun state begun None = None
+takes_begun state begun (Some (Ok unit)) = Some (begun unit)
+takes_begun state begun (Some (Err c)) = Some (Stopped c state)
 
 abbrev pub takes_ran : Bool → TxnState → Entry → Option Went
 takes_ran want_rows state (entry.Ran unit ran given) = Some (Out (outcome_of want_rows given) state)
@@ -217,9 +223,9 @@ takes_ended e = None
 abbrev pub takes : (ℕ → ℕ) → Bool → TxnState → Row → Entry → Option Went
 takes had want_rows state row.Alone e = takes_alone want_rows state e
 takes had want_rows state row.ReadAlone e = takes_alone want_rows state e
-takes had want_rows state row.Begin e = takes_begun state (λ unit. Out (outcome.Done empty_result) (Writing unit)) e
-takes had want_rows state row.BeginFirst e = takes_begun state (λ unit. Still (Writing unit)) e
-takes had want_rows state row.ReadFirst e = takes_begun state (λ unit. Still (Reading unit (had unit))) e
+takes had want_rows state row.Begin e = takes_begun state (λ unit. Out (outcome.Done empty_result) (Writing unit)) (begun_by e)
+takes had want_rows state row.BeginFirst e = takes_begun state (λ unit. Still (Writing unit)) (begun_by e)
+takes had want_rows state row.ReadFirst e = takes_begun state (λ unit. Still (Reading unit (had unit))) (begun_by e)
 takes had want_rows state (row.Run unit) e = takes_ran want_rows state e
 takes had want_rows state (row.Upgrade unit began) e = takes_upgrade want_rows state unit e
 takes had want_rows state (row.Commit unit) e = takes_ended e
@@ -243,7 +249,15 @@ abbrev pub is_waiting : Went → Bool
 is_waiting Waits = true
 is_waiting went = false
 
+-- the state that an entry leaves which means this
+abbrev pub left_by : Went → Option TxnState
+left_by Waits = None
+left_by (Still next) = Some next
+left_by (Out o next) = Some next
+left_by (Stopped c next) = Some next
+left_by (Short next) = None
+
 -- what came of an entry is what it means, or there was no memory for it, and the state is the one that the entry leaves
-abbrev pub IsTaken : TxnState → Option Went → Went → Type 0
-IsTaken state meant (Short left) = IsSomeAnd meant (λ went. state_after state went ≡ left)
-IsTaken state meant went = meant ≡ Some went
+abbrev pub IsTaken : Option Went → Went → Type 0
+IsTaken meant (Short left) = IsSomeAnd meant (λ went. left_by went ≡ Some left)
+IsTaken meant went = meant ≡ Some went

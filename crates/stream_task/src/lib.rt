@@ -2,6 +2,7 @@
 //! one statement and adds at most one entry, of this stream.
 #![tactic(auto)]
 
+mod act;
 mod advance;
 mod checks;
 mod cutting;

@@ -2,7 +2,9 @@
 ghost use Rattle.std.specs.Prelude.{◌≡◌, ℕ, IfOk, IsSome, Some};
 ghost use Rattle.hrana_stmt.specs.Codes.{error_of};
 ghost use Rattle.hrana_batch.specs.declared.outcomes.Outcome.{Outcome};
-ghost use Rattle.stream_task.specs.Table.{shown, empty_result, outcome_of, code_of, cause_of, takes, takes_alone, takes_begun, takes_ran, takes_upgrade, takes_ended, IsTaken};
+ghost use Rattle.stream_task.specs.declared.session.TxnState.{TxnState};
+ghost use Rattle.stream_task.specs.declared.table.Went.{Went};
+ghost use Rattle.stream_task.specs.Table.{shown, empty_result, outcome_of, code_of, cause_of, takes, takes_alone, begun_by, takes_begun, takes_ran, takes_upgrade, takes_ended, IsTaken};
 
 use crate::session::{Cause, TxnState};
 use crate::table::{Row, Went};
@@ -80,7 +82,7 @@ fn cause_of(cause: Broken) -> Cause
 
 /// The statement's outcome is the answer of the engine.
 fn answered(alloc: Global, want_rows: bool, state: TxnState, answer: &Answer) -> Went
-    ensures { IsTaken state (Some (Went.Out (outcome_of want_rows answer.now) state)) result }
+    ensures { IsTaken (Some (Went.Out (outcome_of want_rows answer.now) state)) result }
 {
     match outcome_of(alloc, want_rows, answer) {
         Ok(outcome) => Went::Out(outcome, state),
@@ -90,7 +92,7 @@ fn answered(alloc: Global, want_rows: bool, state: TxnState, answer: &Answer) ->
 
 /// The statement fails with this code.
 pub(crate) fn refused(alloc: Global, code: Code, state: TxnState) -> Went
-    ensures { IsTaken state (Some (Went.Out (Outcome.Failed (error_of code)) state)) result }
+    ensures { IsTaken (Some (Went.Out (Outcome.Failed (error_of code)) state)) result }
 {
     match wire_error(alloc, code) {
         Ok(error) => Went::Out(Outcome::Failed(error), state),
@@ -108,7 +110,7 @@ pub(crate) fn emptied(alloc: Global, state: TxnState) -> Went
 /// What the entry of a statement that ran alone means.
 fn took_alone(alloc: Global, want_rows: bool, state: TxnState, entry: &Entry) -> Went
     requires { IsSome (takes_alone want_rows state entry.now) }
-    ensures { IsTaken state (takes_alone want_rows state entry.now) result }
+    ensures { IsTaken (takes_alone want_rows state entry.now) result }
 {
     match entry {
         Entry::Alone { answer, .. } => answered(alloc, want_rows, state, answer),
@@ -119,24 +121,57 @@ fn took_alone(alloc: Global, want_rows: bool, state: TxnState, entry: &Entry) ->
     }
 }
 
-/// What the entry of a unit that began means, by the unit's number.
-fn took_begun(state: TxnState, begun: Went, entry: &Entry) -> Went
-    requires { IsSome (takes_begun state (λ unit. begun) entry.now) }
-    ensures { takes_begun state (λ unit. begun) entry.now ≡ Some result }
+/// The unit that began, or the code with which the request is answered.
+fn begun_of(entry: &Entry) -> Result<u64, Code>
+    requires { IsSome (begun_by entry.now) }
+    ensures { begun_by entry.now ≡ Some result }
 {
     match entry {
-        Entry::Began { .. } => begun,
+        Entry::Began { unit, .. } => Ok(*unit),
         Entry::Failed {
             unit: None, cause, ..
-        } => Went::Stopped(code_of(*cause), state),
+        } => Err(code_of(*cause)),
         _ => unreachable!(),
+    }
+}
+
+/// What the entry of a unit that began with a statement of its own means.
+fn took_begin(alloc: Global, state: TxnState, entry: &Entry) -> Went
+    requires { IsSome (begun_by entry.now) }
+    ensures { takes_begun state (λ unit. Went.Out (Outcome.Done empty_result) (TxnState.Writing unit)) (begun_by entry.now) ≡ Some result }
+{
+    match begun_of(entry) {
+        Ok(unit) => emptied(alloc, TxnState::Writing { unit }),
+        Err(code) => Went::Stopped(code, state),
+    }
+}
+
+/// What the entry of a unit that began for a statement means, where the statement writes.
+fn took_writer(state: TxnState, entry: &Entry) -> Went
+    requires { IsSome (begun_by entry.now) }
+    ensures { takes_begun state (λ unit. Went.Still (TxnState.Writing unit)) (begun_by entry.now) ≡ Some result }
+{
+    match begun_of(entry) {
+        Ok(unit) => Went::Still(TxnState::Writing { unit }),
+        Err(code) => Went::Stopped(code, state),
+    }
+}
+
+/// What the entry of a unit that began for a read means, at this version.
+fn took_reader(version: u64, state: TxnState, entry: &Entry) -> Went
+    requires { IsSome (begun_by entry.now) }
+    ensures { takes_begun state (λ unit. Went.Still (TxnState.Reading unit version)) (begun_by entry.now) ≡ Some result }
+{
+    match begun_of(entry) {
+        Ok(unit) => Went::Still(TxnState::Reading { unit, had: version }),
+        Err(code) => Went::Stopped(code, state),
     }
 }
 
 /// What the entry of a statement that ran in a unit means.
 fn took_ran(alloc: Global, want_rows: bool, state: TxnState, entry: &Entry) -> Went
     requires { IsSome (takes_ran want_rows state entry.now) }
-    ensures { IsTaken state (takes_ran want_rows state entry.now) result }
+    ensures { IsTaken (takes_ran want_rows state entry.now) result }
 {
     match entry {
         Entry::Ran { answer, .. } => answered(alloc, want_rows, state, answer),
@@ -162,5 +197,45 @@ fn took_ended(alloc: Global, entry: &Entry) -> Went
             ..
         } => Went::Stopped(code_of(*cause), TxnState::Dead(cause_of(*cause))),
         _ => unreachable!(),
+    }
+}
+
+/// What the entry of a reader that is to write means.
+fn took_upgrade(
+    alloc: Global,
+    want_rows: bool,
+    state: TxnState,
+    unit: u64,
+    entry: &Entry,
+) -> Went
+    requires { IsSome (takes_upgrade want_rows state unit entry.now) }
+    ensures { IsTaken (takes_upgrade want_rows state unit entry.now) result }
+{
+    match entry {
+        Entry::Denied { .. } => refused(alloc, Code::Busy, state),
+        _ => took_ran(alloc, want_rows, TxnState::Writing { unit }, entry),
+    }
+}
+
+/// What the entry of a row means. A unit that begins to read does so at this version.
+pub(crate) fn took(
+    alloc: Global,
+    version: u64,
+    want_rows: bool,
+    state: TxnState,
+    row: Row,
+    entry: &Entry,
+) -> Went
+    requires { IsSome (takes (λ unit. version) want_rows state row entry.now) }
+    ensures { IsTaken (takes (λ unit. version) want_rows state row entry.now) result }
+{
+    match row {
+        Row::Alone | Row::ReadAlone => took_alone(alloc, want_rows, state, entry),
+        Row::Begin => took_begin(alloc, state, entry),
+        Row::BeginFirst => took_writer(state, entry),
+        Row::ReadFirst => took_reader(version, state, entry),
+        Row::Run(_) => took_ran(alloc, want_rows, state, entry),
+        Row::Upgrade { unit, .. } => took_upgrade(alloc, want_rows, state, unit, entry),
+        Row::Commit(_) | Row::EndRead(_) | Row::Undo(_) => took_ended(alloc, entry),
     }
 }
