@@ -1,16 +1,17 @@
 -- One poll of a stream: the entry that it adds, what it answers, and the stream after it.
-use Rattle.std.specs.Prelude.{◌≡◌, Bool, true, false, List, [], ◌∷◌, Option, None}
+use Rattle.std.specs.Prelude.{◌≡◌, Bool, true, false, List, [], ◌∷◌, ◌++◌, Option, None, option_to_list}
 use Rattle.hrana_value.specs.declared.StreamNo.{StreamNo}
+use Rattle.stream_requests.specs.declared.asks.Ask.{Ask}
 use Rattle.engine_core.specs.declared.entries.Entry.{Entry}
 use Rattle.engine_core.specs.declared.entries.Undo.{Undo}
 use Rattle.engine_core.specs.declared.entries.Undo.TheVariants as undo
 use Rattle.stream_task.specs.Table.{Seen}
-use Rattle.stream_task.specs.Doing.{Session, in_state}
+use Rattle.stream_task.specs.Doing.{Session, in_state, work_of}
 use Rattle.stream_task.specs.Advance.{PollsWork}
 use Rattle.stream_task.specs.declared.session.Cause.{Cause}
 use Rattle.stream_task.specs.declared.session.Cause.TheVariants as cause
 use Rattle.stream_task.specs.declared.session.TxnState.{TxnState}
-use Rattle.stream_task.specs.declared.session.TxnState.TheVariants.{Dead}
+use Rattle.stream_task.specs.declared.session.TxnState.TheVariants.{Auto, Dead}
 use Rattle.stream_task.specs.declared.work.Work.{Work}
 use Rattle.stream_task.specs.declared.advance.Advanced.{Advanced}
 use Rattle.stream_task.specs.declared.advance.Advanced.TheVariants.{Waits, Ran, Replied, Broke}
@@ -21,12 +22,21 @@ use Rattle.stream_task.specs.declared.task.Stepped.TheVariants as stepped
 
 pub record Task : Type 0 where
   pub stream : StreamNo
+  -- stored texts belong to the stream
+  pub texts_inside : Bool
   pub session : Session
   -- the requests that wait for polls, in the order in which they came; the first may be running
   pub asks : List Work
 
+abbrev pub new_task : StreamNo → Bool → Task
+new_task stream texts_inside = record { stream = stream; texts_inside = texts_inside; session = record { state = Auto; texts = [] }; asks = [] }
+
 abbrev pub with_asks : Task → TxnState → List Work → Task
-with_asks task state asks = record { stream = task.stream; session = in_state task.session state; asks = asks }
+with_asks task state asks = record { stream = task.stream; texts_inside = task.texts_inside; session = in_state task.session state; asks = asks }
+
+-- one more request, behind the others
+abbrev pub asked : Task → Ask → Task
+asked task ask = with_asks task task.session.state (task.asks ++ option_to_list (work_of ask))
 
 abbrev pub is_waiting : List Work → Bool
 is_waiting [] = false
