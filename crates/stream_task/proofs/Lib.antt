@@ -1,3 +1,4 @@
 -- Where the clauses are proved that the check doesn't prove by itself:
 --   check                                     checks/check, by CheckLemmas
 pub mod CheckLemmas
+pub mod RowLemmas

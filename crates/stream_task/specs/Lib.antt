@@ -5,3 +5,4 @@ pub mod Act
 pub mod Effect
 pub mod Moved
 pub mod Adds
+pub mod Statement

@@ -6,6 +6,7 @@ mod act;
 mod checks;
 mod outcomes;
 mod session;
+mod statement;
 mod table;
 mod texts;
 mod turns;
