@@ -9,3 +9,4 @@ pub mod StepLemmas
 pub mod MeansLemmas
 pub mod RequestLemmas
 pub mod TaskLemmas
+pub mod RowLemmas

@@ -11,3 +11,4 @@ pub mod Means
 pub mod Advance
 pub mod Polls
 pub mod Laws
+pub mod Statement

@@ -10,6 +10,7 @@ mod laws;
 mod outcomes;
 mod replies;
 mod session;
+mod statement;
 mod steps;
 mod table;
 mod task;
