@@ -6,6 +6,8 @@
 --   replies_stand_in_order                    laws/, by TaskLemmas
 pub mod CheckLemmas
 pub mod StepLemmas
+pub mod TodoLemmas
+pub mod AdvanceLemmas
 pub mod MeansLemmas
 pub mod RequestLemmas
 pub mod TaskLemmas

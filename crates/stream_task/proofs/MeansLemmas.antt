@@ -14,7 +14,7 @@ use Rattle.engine_core.specs.declared.entries.Entry.{Entry}
 use Rattle.engine_core.specs.declared.entries.Entry.TheVariants as entry
 use Rattle.stream_task.specs.Session.{is_auto, is_shut}
 use Rattle.stream_task.specs.Checks.{ready_of}
-use Rattle.stream_task.specs.Table.{plan, takes, takes_alone, takes_begun, takes_ran, takes_upgrade, takes_ended, Seen, IsVersioned, empty_result}
+use Rattle.stream_task.specs.Table.{plan, takes, takes_alone, begun_by, takes_begun, takes_ran, takes_upgrade, takes_ended, Seen, IsVersioned, empty_result}
 use Rattle.stream_task.specs.Adds.{PollsStatement, ReadyPolls, PlanPolls, RowPolls, Acts}
 use Rattle.stream_task.specs.Means.{Taken, took, broke, took_went, class_means, ready_means}
 use Rattle.stream_task.specs.declared.session.TxnState.{TxnState}
@@ -83,10 +83,10 @@ keeps_alone want_rows s (entry.Alone by ran given has_written) o = o
 keeps_alone want_rows s (entry.Failed by None why) o = tt
 keeps_alone want_rows s e o = tt
 
-keeps_begun : (s : TxnState) (begun : ℕ → Went) (e : Entry) → ((unit : ℕ) → Keeps s (begun unit)) → KeepsTaken s (takes_begun s begun e)
-keeps_begun s begun (entry.Began unit by) k = k unit
-keeps_begun s begun (entry.Failed by None why) k = tt
-keeps_begun s begun e k = tt
+keeps_begun : (s : TxnState) (begun : ℕ → Went) (b : Option (Result ℕ Code)) → ((unit : ℕ) → Keeps s (begun unit)) → KeepsTaken s (takes_begun s begun b)
+keeps_begun s begun None k = tt
+keeps_begun s begun (Some (Ok unit)) k = k unit
+keeps_begun s begun (Some (Err c)) k = tt
 
 keeps_ran : (want_rows : Bool) (s u : TxnState) (e : Entry) → is_shut u ≡ false → KeepsTaken s (takes_ran want_rows u e)
 keeps_ran want_rows s u (entry.Ran unit ran given) o = o
@@ -107,9 +107,9 @@ keeps_ended s e = tt
 keeps_row : (had : ℕ → ℕ) (want_rows : Bool) (s : TxnState) (r : Row) (e : Entry) → is_shut s ≡ false → FirstIn r s → KeepsTaken s (takes had want_rows s r e)
 keeps_row had want_rows s row.Alone e o f = keeps_alone want_rows s e o
 keeps_row had want_rows s row.ReadAlone e o f = keeps_alone want_rows s e o
-keeps_row had want_rows s row.Begin e o f = keeps_begun s _ e (λ unit. refl)
-keeps_row had want_rows s row.BeginFirst e o f = keeps_begun s _ e (λ unit. (f, refl))
-keeps_row had want_rows s row.ReadFirst e o f = keeps_begun s _ e (λ unit. (f, refl))
+keeps_row had want_rows s row.Begin e o f = keeps_begun s _ (begun_by e) (λ unit. refl)
+keeps_row had want_rows s row.BeginFirst e o f = keeps_begun s _ (begun_by e) (λ unit. (f, refl))
+keeps_row had want_rows s row.ReadFirst e o f = keeps_begun s _ (begun_by e) (λ unit. (f, refl))
 keeps_row had want_rows s (row.Run unit) e o f = keeps_ran want_rows s s e o
 keeps_row had want_rows s (row.Upgrade unit began) e o f = keeps_upgrade want_rows s unit e o
 keeps_row had want_rows s (row.Commit unit) e o f = keeps_ended s e

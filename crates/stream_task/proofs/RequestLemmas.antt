@@ -19,7 +19,7 @@ use Rattle.stream_task.specs.Adds.{undone_of}
 use Rattle.stream_task.specs.Steps.{is_skipped, pass_over, StartsAt}
 use Rattle.stream_task.specs.Doing.{Session, session_in, in_state, steps_of_text}
 use Rattle.stream_task.specs.Means.{Taken, took, Meant, said, means, open_means, shut_means, running_means, steps_mean, then_means, said_or, execute_means, ready_means, close_means, sequence_means, closed_means, reply_of, ends_with, failed}
-use Rattle.stream_task.specs.Advance.{todo_of, open_todo, shut_todo, running_todo, steps_todo, sequence_todo, closed_todo, statement_of, steps_rest, steps_go_on, replied_or, outcome_leaves, Leaves, Does, PollsWork}
+use Rattle.stream_task.specs.Advance.{StartsIn, todo_of, open_todo, shut_todo, running_todo, steps_todo, sequence_todo, closed_todo, statement_of, steps_rest, steps_go_on, replied_or, outcome_leaves, Leaves, Does, PollsWork}
 use Rattle.stream_task.specs.Laws.{IsAfter, PollMeans, AskMeans, Polled, waited, ran, replied}
 use Rattle.stream_task.specs.declared.session.TxnState.{TxnState}
 use Rattle.stream_task.specs.declared.session.TxnState.TheVariants.{Auto, Deferred, Reading, Writing, Dead, Closed}
@@ -36,6 +36,7 @@ use Rattle.stream_task.specs.declared.todo.Todo.{Todo}
 use Rattle.stream_task.specs.declared.todo.Todo.TheVariants as todo
 use Rattle.stream_task.specs.declared.advance.Advanced.{Advanced}
 use Rattle.stream_task.specs.declared.advance.Advanced.TheVariants.{Waits, Ran, Replied, Broke}
+use Rattle.stream_task.proofs.TodoLemmas.{StartsTodo, todo_starts}
 use Rattle.stream_task.proofs.MeansLemmas.{StatementLeaves, statement_leaves}
 
 means_open : (shared : Bool) (had : ℕ → ℕ) (s : Session) (w : Work) (es : List Entry) → is_shut s.state ≡ false → means shared had s w es ≡ open_means shared had s w es
@@ -43,42 +44,37 @@ means_open shared had s w es o = rw o refl
 
 -- ---- what is to do, and what is meant
 
--- the first of its steps isn't skipped
-abbrev StartsIn : TxnState → Running → Type 0
-StartsIn state (Statement stmt) = Unit {0}
-StartsIn state (Steps k r) = StartsAt (is_auto state) r.left r.done
-
 -- what a request means, by what a poll of it is to do
 abbrev MeansTodo : Bool → (ℕ → ℕ) → Session → Meant → Todo → List Entry → Type 0
 MeansTodo shared had s meant (todo.Answer (Replied r next)) es = meant ≡ said r (in_state s next) es
 MeansTodo shared had s meant (todo.Answer other) es = ⊥
-MeansTodo shared had s meant (todo.Poll running) es = (meant ≡ running_means shared had s running es) × StartsIn s.state running × (is_shut s.state ≡ false)
+MeansTodo shared had s meant (todo.Poll running) es = meant ≡ running_means shared had s running es
 MeansTodo shared had s meant todo.Close es = meant ≡ close_means (unit_of s.state) s es
 
-steps_todo_means : (shared : Bool) (had : ℕ → ℕ) (k : Kind) (left : List Step) (done : List Outcome) (s : Session) (es : List Entry) → is_shut s.state ≡ false
+steps_todo_means : (shared : Bool) (had : ℕ → ℕ) (k : Kind) (left : List Step) (done : List Outcome) (s : Session) (es : List Entry)
     → MeansTodo shared had s (steps_mean shared had k left done s es) (running_todo s.state (Steps k (record { left = left; done = done }))) es
-steps_todo_means shared had k [] done s es o = refl
-steps_todo_means shared had k (x ∷ xs) done s es o = elim (cases_Bool (is_skipped x.condition done (is_auto s.state))) [
-  | inl y ↦ rw y (steps_todo_means shared had k xs (done ++ Skipped ∷ []) s es o)
-  | inr n ↦ rw n (rw n refl, n, o)
+steps_todo_means shared had k [] done s es = refl
+steps_todo_means shared had k (x ∷ xs) done s es = elim (cases_Bool (is_skipped x.condition done (is_auto s.state))) [
+  | inl y ↦ rw y (steps_todo_means shared had k xs (done ++ Skipped ∷ []) s es)
+  | inr n ↦ rw n (rw n refl)
 ]
 
-closed_todo_means : (shared : Bool) (had : ℕ → ℕ) (text : List ℕ) (at : Option ℕ) (s : Session) (es : List Entry) → is_shut s.state ≡ false
+closed_todo_means : (shared : Bool) (had : ℕ → ℕ) (text : List ℕ) (at : Option ℕ) (s : Session) (es : List Entry)
     → MeansTodo shared had s (closed_means shared had text at s es) (closed_todo s.state text at) es
-closed_todo_means shared had text (Some at) s es o = refl
-closed_todo_means shared had text None s es o = steps_todo_means shared had Sequence (steps_of_text text) [] s es o
+closed_todo_means shared had text (Some at) s es = refl
+closed_todo_means shared had text None s es = steps_todo_means shared had Sequence (steps_of_text text) [] s es
 
-sequence_todo_means : (shared : Bool) (had : ℕ → ℕ) (text : Option (List ℕ)) (s : Session) (es : List Entry) → is_shut s.state ≡ false
+sequence_todo_means : (shared : Bool) (had : ℕ → ℕ) (text : Option (List ℕ)) (s : Session) (es : List Entry)
     → MeansTodo shared had s (sequence_means shared had text s es) (sequence_todo s.state text) es
-sequence_todo_means shared had None s es o = refl
-sequence_todo_means shared had (Some text) s es o = closed_todo_means shared had text (unclosed_at text) s es o
+sequence_todo_means shared had None s es = refl
+sequence_todo_means shared had (Some text) s es = closed_todo_means shared had text (unclosed_at text) s es
 
-open_todo_means : (shared : Bool) (had : ℕ → ℕ) (s : Session) (w : Work) (es : List Entry) → is_shut s.state ≡ false → MeansTodo shared had s (open_means shared had s w es) (open_todo s w) es
-open_todo_means shared had s (work.Running (Statement stmt)) es o = (refl, tt, o)
-open_todo_means shared had s (work.Running (Steps k r)) es o = steps_todo_means shared had k r.left r.done s es o
-open_todo_means shared had s (work.Sequence text) es o = sequence_todo_means shared had (text_of s.texts text) s es o
-open_todo_means shared had s work.GetAutocommit es o = refl
-open_todo_means shared had s work.Close es o = refl
+open_todo_means : (shared : Bool) (had : ℕ → ℕ) (s : Session) (w : Work) (es : List Entry) → MeansTodo shared had s (open_means shared had s w es) (open_todo s w) es
+open_todo_means shared had s (work.Running (Statement stmt)) es = refl
+open_todo_means shared had s (work.Running (Steps k r)) es = steps_todo_means shared had k r.left r.done s es
+open_todo_means shared had s (work.Sequence text) es = sequence_todo_means shared had (text_of s.texts text) s es
+open_todo_means shared had s work.GetAutocommit es = refl
+open_todo_means shared had s work.Close es = refl
 
 shut_todo_means : (shared : Bool) (had : ℕ → ℕ) (texts : List StoredText) (state : TxnState) (w : Work) (es : List Entry)
     → MeansTodo shared had (session_in texts state) (shut_means state (session_in texts state) w es) (shut_todo state w) es
@@ -89,7 +85,7 @@ shut_todo_means shared had texts state w es = refl
 todo_means : (shared : Bool) (had : ℕ → ℕ) (s : Session) (w : Work) (es : List Entry) → MeansTodo shared had s (means shared had s w es) (todo_of s w) es
 todo_means shared had s w es = elim (cases_Bool (is_shut s.state)) [
   | inl y ↦ rw y (shut_todo_means shared had s.texts s.state w es)
-  | inr n ↦ rw n (open_todo_means shared had s w es n)
+  | inr n ↦ rw n (open_todo_means shared had s w es)
 ]
 
 -- ---- after a statement
@@ -150,11 +146,11 @@ steps_after shared had s k x xs done es rest (went.Stopped c u) result o n m h =
 steps_after shared had s k x xs done es rest (went.Short u) result o n m h = subst (λ y. IsAfter shared had s (steps_mean shared had k (x ∷ xs) done s es) y rest) (sym h) tt
 
 running_after : (shared : Bool) (had : ℕ → ℕ) (s : Session) (running : Running) (stmt : Stmt) (es rest : List Entry) (w : Went) (result : Advanced)
-    → statement_of running ≡ Some stmt → StartsIn s.state running → is_shut s.state ≡ false
+    → statement_of running ≡ Some stmt → StartsIn (is_auto s.state) running → is_shut s.state ≡ false
     → StatementLeaves shared had stmt.want_rows (ready_of s.texts stmt) s.state es rest w → Leaves running w result → IsAfter shared had s (running_means shared had s running es) result rest
 running_after shared had s (Statement q) stmt es rest w result f n o m h = let same : q ≡ stmt = cc in
     statement_after shared had s q es rest w result o (subst (λ (y : Stmt). StatementLeaves shared had y.want_rows (ready_of s.texts y) s.state es rest w) (sym same) m) h
-running_after shared had s (Steps k r) stmt es rest w result f n o m h = by_left r.left r.done f n h
+running_after shared had s (Steps k r) stmt es rest w result f n o m h = by_left r.left r.done f n.1 h
   where
     by_left : (left : List Step) (done : List Outcome) → statement_of (Steps k (record { left = left; done = done })) ≡ Some stmt → StartsAt (is_auto s.state) left done
         → Leaves (Steps k (record { left = left; done = done })) w result → IsAfter shared had s (steps_mean shared had k left done s es) result rest
@@ -171,24 +167,24 @@ close_after shared had texts (Writing unit) rest = refl
 close_after shared had texts state rest = refl
 
 does_after : (shared : Bool) (had : ℕ → ℕ) (stream : StreamNo) (seen : Seen) (s : Session) (t : Todo) (added : Option Entry) (result : Advanced) (meant : List Entry → Meant)
-    → ((es : List Entry) → MeansTodo shared had s (meant es) t es) → IsVersioned had seen added → Does shared stream seen s t added result
+    → ((es : List Entry) → MeansTodo shared had s (meant es) t es) → StartsTodo s t → IsVersioned had seen added → Does shared stream seen s t added result
     → (rest : List Entry) → IsAfter shared had s (meant (option_to_list added ++ rest)) result rest
-does_after shared had stream seen s (todo.Answer (Replied r next)) added result meant m v h rest =
+does_after shared had stream seen s (todo.Answer (Replied r next)) added result meant m b v h rest =
     subst (λ x. IsAfter shared had s (meant (option_to_list x ++ rest)) result rest) (sym h.no_entry) (subst (λ x. IsAfter shared had s (meant rest) x rest) (sym h.answer) (m rest))
-does_after shared had stream seen s (todo.Answer (Waits w)) added result meant m v h rest = absurd (m [])
-does_after shared had stream seen s (todo.Answer (Ran w next)) added result meant m v h rest = absurd (m [])
-does_after shared had stream seen s (todo.Answer (Broke next)) added result meant m v h rest = absurd (m [])
-does_after shared had stream seen s (todo.Poll running) added result meant m v h rest = let meaning = m (option_to_list added ++ rest) in
-    subst (λ x. IsAfter shared had s x result rest) (sym meaning.0)
-    (running_after shared had s running h.stmt (option_to_list added ++ rest) rest h.went result h.first meaning.1 meaning.2
-    (statement_leaves shared had stream seen s.state s.texts h.stmt added h.went rest meaning.2 v h.polls) h.leaves)
-does_after shared had stream seen s todo.Close added result meant m v h rest =
+does_after shared had stream seen s (todo.Answer (Waits w)) added result meant m b v h rest = absurd (m [])
+does_after shared had stream seen s (todo.Answer (Ran w next)) added result meant m b v h rest = absurd (m [])
+does_after shared had stream seen s (todo.Answer (Broke next)) added result meant m b v h rest = absurd (m [])
+does_after shared had stream seen s (todo.Poll running) added result meant m b v h rest =
+    subst (λ x. IsAfter shared had s x result rest) (sym (m (option_to_list added ++ rest)))
+    (running_after shared had s running h.stmt (option_to_list added ++ rest) rest h.went result h.first b.0 b.1
+    (statement_leaves shared had stream seen s.state s.texts h.stmt added h.went rest b.1 v h.polls) h.leaves)
+does_after shared had stream seen s todo.Close added result meant m b v h rest =
     subst (λ x. IsAfter shared had s (meant (option_to_list added ++ rest)) x rest) (sym h.answer)
     (m (option_to_list added ++ rest) ∙ ap (λ x. close_means (unit_of s.state) s (option_to_list x ++ rest)) h.undone ∙ close_after shared had s.texts s.state rest)
 
 pub poll_means : PollMeans
 poll_means shared had stream seen s w added result v h rest = elim h [
-  | inl does ↦ does_after shared had stream seen s (todo_of s w) added result (λ es. means shared had s w es) (λ es. todo_means shared had s w es) v does rest
+  | inl does ↦ does_after shared had stream seen s (todo_of s w) added result (λ es. means shared had s w es) (λ es. todo_means shared had s w es) (todo_starts s w) v does rest
   | inr falls ↦ subst (λ x. IsAfter shared had s (means shared had s w (option_to_list added ++ rest)) x rest) (sym falls.answer) tt
 ]
 

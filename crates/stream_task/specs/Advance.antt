@@ -1,5 +1,5 @@
 -- One poll of a request: the entry that it adds, and what it leaves.
-use Rattle.std.specs.Prelude.{◌≡◌, ◌⊎◌, if◌then◌else◌, ℕ, Bool, List, [], ◌∷◌, Option, Some, None}
+use Rattle.std.specs.Prelude.{◌≡◌, ◌⊎◌, ◌<◌, length, true, false, if◌then◌else◌, ℕ, Bool, List, [], ◌∷◌, Option, Some, None}
 use Rattle.hrana_value.specs.declared.StreamNo.{StreamNo}
 use Rattle.hrana_stmt.specs.declared.codes.Code.{Code}
 use Rattle.hrana_stmt.specs.declared.codes.Code.TheVariants as code
@@ -15,7 +15,7 @@ use Rattle.stream_task.specs.Session.{is_auto, is_shut}
 use Rattle.stream_task.specs.Checks.{text_of}
 use Rattle.stream_task.specs.Table.{Seen}
 use Rattle.stream_task.specs.Adds.{PollsStatement, undone_of}
-use Rattle.stream_task.specs.Steps.{noted, passed}
+use Rattle.stream_task.specs.Steps.{first_of, noted, passed, StartsAt}
 use Rattle.stream_task.specs.Steps.{Steps as Stepping}
 use Rattle.stream_task.specs.Doing.{Session, steps_of_text}
 use Rattle.stream_task.specs.Means.{failed, executed, reply_of, ends_with}
@@ -36,14 +36,15 @@ use Rattle.stream_task.specs.declared.todo.Todo.TheVariants as todo
 
 -- ---- what a poll is to do
 
--- the first statement that is polled
-abbrev pub first_of : List Step → Option Stmt
-first_of [] = None
-first_of (x ∷ xs) = Some x.stmt
-
+-- the first statement of a request
 abbrev pub statement_of : Running → Option Stmt
 statement_of (Statement stmt) = Some stmt
 statement_of (Steps k r) = first_of r.left
+
+-- it has one, which isn't skipped
+abbrev pub StartsIn : Bool → Running → Type 0
+StartsIn auto (Statement stmt) = Unit {0}
+StartsIn auto (Steps k r) = (0 < length r.left) × StartsAt auto r.left r.done
 
 abbrev pub steps_todo : Kind → List Step → List Outcome → TxnState → Todo
 steps_todo k [] done state = todo.Answer (Replied (reply_of k done) state)
@@ -91,6 +92,10 @@ state_left state (Waits w) = state
 state_left state (Ran w next) = next
 state_left state (Replied r next) = next
 state_left state (Broke next) = next
+
+abbrev pub waits_on : Advanced → Bool
+waits_on (Waits w) = true
+waits_on result = false
 
 -- the request runs on where a step is left, and is answered where none is
 abbrev pub steps_rest : Kind → List Step → List Outcome → TxnState → Advanced

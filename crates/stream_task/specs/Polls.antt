@@ -7,7 +7,7 @@ use Rattle.engine_core.specs.declared.entries.Undo.{Undo}
 use Rattle.engine_core.specs.declared.entries.Undo.TheVariants as undo
 use Rattle.stream_task.specs.Table.{Seen}
 use Rattle.stream_task.specs.Doing.{Session, in_state, work_of}
-use Rattle.stream_task.specs.Advance.{PollsWork}
+use Rattle.stream_task.specs.Advance.{PollsWork, state_left}
 use Rattle.stream_task.specs.declared.session.Cause.{Cause}
 use Rattle.stream_task.specs.declared.session.Cause.TheVariants as cause
 use Rattle.stream_task.specs.declared.session.TxnState.{TxnState}
@@ -48,12 +48,15 @@ answer_of (Ran w next) = Ready stepped.Ran
 answer_of (Replied r next) = Ready (stepped.Replied r)
 answer_of (Broke next) = Ready stepped.Broke
 
--- the stream after a poll of its first request, where these come behind it. One that met want of memory has none left.
+-- the requests after a poll of the first, where these come behind it. One that met want of memory leaves none.
+abbrev pub asks_left : List Work → Advanced → List Work
+asks_left rest (Waits w) = w ∷ rest
+asks_left rest (Ran w next) = w ∷ rest
+asks_left rest (Replied r next) = rest
+asks_left rest (Broke next) = []
+
 abbrev pub task_after : Task → List Work → Advanced → Task
-task_after task rest (Waits w) = with_asks task task.session.state (w ∷ rest)
-task_after task rest (Ran w next) = with_asks task next (w ∷ rest)
-task_after task rest (Replied r next) = with_asks task next rest
-task_after task rest (Broke next) = with_asks task next []
+task_after task rest advanced = with_asks task (state_left task.session.state advanced) (asks_left rest advanced)
 
 pub record PollsFirst (shared : Bool) (seen : Seen) (old : Task) (w : Work) (rest : List Work) (added : Option Entry) (result : Poll Stepped) (new : Task) : Type 0 where
   pub advanced : Advanced
@@ -77,10 +80,6 @@ Polls shared seen old added result new = PollsAsks shared seen old old.asks adde
 abbrev pub is_pending : Poll Stepped → Bool
 is_pending Pending = true
 is_pending (Ready answer) = false
-
-abbrev pub waits_on : Advanced → Bool
-waits_on (Waits w) = true
-waits_on result = false
 
 -- ---- the end of a stream from outside
 

@@ -1,5 +1,6 @@
 -- The steps of a batch or a sequence, and how far they have come.
 use Rattle.std.specs.Prelude.{◌≡◌, Bool, true, false, not, List, [], ◌∷◌, ◌++◌, drop, length, Option, Some, None, if◌then◌else◌, IsSomeAnd}
+use Rattle.hrana_stmt.specs.declared.statements.Stmt.{Stmt}
 use Rattle.hrana_batch.specs.Conditions.{holds_on}
 use Rattle.hrana_batch.specs.Progress.{Progress}
 use Rattle.hrana_batch.specs.declared.conditions.Cond.{Cond}
@@ -21,6 +22,11 @@ steps_in p = record { left = drop (length p.outcomes) p.batch.steps; done = p.ou
 abbrev pub later_steps : List Step → List Step
 later_steps [] = []
 later_steps (x ∷ xs) = xs
+
+-- the statement of the first step
+abbrev pub first_of : List Step → Option Stmt
+first_of [] = None
+first_of (x ∷ xs) = Some x.stmt
 
 -- the first of the steps that are left has this outcome
 abbrev pub noted : Steps → Outcome → Steps

@@ -1,9 +1,10 @@
 // The steps of a batch or a sequence, and how far they have come.
-ghost use Rattle.std.specs.Prelude.{◌≡◌, ◌↔◌, IsTrue, ◌<◌, [], length, IfOk};
+ghost use Rattle.std.specs.Prelude.{◌≡◌, ◌↔◌, IsTrue, ◌<◌, [], length, IfOk, Some};
 ghost use Rattle.hrana_batch.specs.Progress.{NamesEarlierSteps};
-ghost use Rattle.stream_task.specs.Steps.{Steps, noted, passed, NextIn, StartsAt};
+ghost use Rattle.stream_task.specs.Steps.{Steps, first_of, noted, passed, NextIn, StartsAt};
 
 use hrana_batch::{Batch, BatchResult, BatchRun, Next, Outcome};
+use hrana_stmt::Stmt;
 use hrana_value::NoMemory;
 use std::alloc::Global;
 use std::marker::Model;
@@ -44,6 +45,19 @@ impl StepRun {
         ensures { NextIn auto self.now.left self.now.done result }
     {
         self.run.next(auto)
+    }
+
+    /// The statement of the first of the steps that are left, which isn't skipped.
+    pub(crate) fn first(&self, auto: bool) -> &Stmt
+        requires left { 0 < length self.now.left }
+        requires starts { StartsAt auto self.now.left self.now.done }
+        ensures { first_of self.now.left ≡ Some result.now }
+    {
+        match self.next(auto) {
+            Next::Run(stmt) => stmt,
+            Next::Skip => unreachable!(),
+            Next::Finished => unreachable!(),
+        }
     }
 
     /// Whether no step is left.
