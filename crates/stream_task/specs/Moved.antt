@@ -6,7 +6,7 @@ use Rattle.txn_table.specs.declared.table.Need.{Need}
 use Rattle.txn_table.specs.declared.table.Grant.{Grant}
 use Rattle.txn_table.specs.declared.table.Grant.TheVariants as grant
 use Rattle.engine_core.specs.Engine.{is_write, IsReadOrWrite}
-use Rattle.engine_core.specs.Transactions.{Lives, NoWriter, NoneLive, NoOtherWriter, StartsAt, MayCommit}
+use Rattle.engine_core.specs.Transactions.{Lives, View, NoWriter, NoneLive, NoOtherWriter, StartsAt, MayCommit}
 use Rattle.engine_core.specs.declared.statement.BoundStmt.{BoundStmt}
 use Rattle.engine_core.specs.declared.entries.How.TheVariants as how
 use Rattle.engine_core.specs.declared.entries.Deny.TheVariants as deny
@@ -50,6 +50,14 @@ WritesByTurn live t = t.turn ≡ None → NoWriter live
 -- where the engine doesn't share, nothing lives where nobody holds the turn
 abbrev pub LivesByTurn : {D : Type 0} → Bool → Lives D → Turns → Type 0
 LivesByTurn shared live t = shared ≡ false → t.turn ≡ None → NoneLive live
+
+-- no two transactions live
+abbrev pub HasOne : {D : Type 0} → Lives D → Type 0
+HasOne {D} live = (a b : ℕ) (v w : View D) → live a ≡ Some v → live b ≡ Some w → a ≡ b
+
+-- Where the engine doesn't share and no two transactions live, it stays so, and none lives where nobody holds the turn.
+abbrev pub StaysOne : {D : Type 0} → Bool → Lives D → Lives D → Turns → Type 0
+StaysOne shared live live' t' = shared ≡ false → HasOne live → HasOne live' × (t'.turn ≡ None → NoneLive live')
 
 -- ---- what an entry does to the turn
 

@@ -19,7 +19,10 @@ use Rattle.engine_core.specs.declared.entries.Entry.TheVariants as entry
 use Rattle.stream_task.specs.Act.{IsGranted}
 use Rattle.stream_task.specs.Effect.{Effect, RefusesByCause}
 use Rattle.stream_task.specs.Moved.{settled}
-use Rattle.stream_task.specs.Table.{begins_writer, MayAdd, takes, IsTaken}
+use Rattle.sql_text.specs.declared.prepared.Prepared.{Prepared}
+use Rattle.stream_task.specs.Adds.{Acts, RowPolls}
+use Rattle.stream_task.specs.Checks.{IsReady}
+use Rattle.stream_task.specs.Table.{begins_writer, Seen, MayAdd, takes, IsTaken, left_by, is_waiting}
 use Rattle.stream_task.specs.declared.session.TxnState.{TxnState}
 use Rattle.stream_task.specs.declared.table.Row.{Row}
 use Rattle.stream_task.specs.declared.table.Row.TheVariants as row
@@ -64,3 +67,23 @@ pub record RunsRow {X D : Type 0} (told : Bool) (m : Meaning D BoundStmt Answer)
   pub cause : RoseBy (fault_of e) (faults engine) (faults engine')
   pub refused : RefusesByCause told (faults engine) (faults engine') (Some e)
   pub taken : IsTaken (takes (λ unit. t.version) want_rows state r e) went
+  pub goes : is_waiting went ≡ false
+
+-- ---- what came of a row
+
+pub record RowFallsAfter (stream : StreamNo) (seen : Seen) (state : TxnState) (want_rows : Bool) (ready : Prepared) (r : Row) (e : Entry) (left : TxnState) : Type 0 where
+  pub went : Went
+  pub acts : Acts stream seen state want_rows ready r e went
+  pub left_is : left_by went ≡ Some left
+
+abbrev pub RowFalls : StreamNo → Seen → TxnState → Bool → Prepared → Row → Option Entry → TxnState → Type 0
+RowFalls stream seen state want_rows ready r None left = left ≡ state
+RowFalls stream seen state want_rows ready r (Some e) left = RowFallsAfter stream seen state want_rows ready r e left
+
+abbrev pub RowEnds : StreamNo → Seen → TxnState → Bool → Prepared → Row → Went → Option Entry → Type 0
+RowEnds stream seen state want_rows ready r (Short left) added = RowFalls stream seen state want_rows ready r added left
+RowEnds stream seen state want_rows ready r went added = RowPolls stream seen state want_rows ready r added went
+
+-- for each statement that passed the checks and is this one
+abbrev pub RowGoes : StreamNo → Seen → TxnState → Bool → BoundStmt → Row → Went → Option Entry → Type 0
+RowGoes stream seen state want_rows stmt r went added = (ready : Prepared) → IsReady ready stmt → RowEnds stream seen state want_rows ready r went added

@@ -1,10 +1,10 @@
 // What an entry means to the statement whose poll added it.
-ghost use Rattle.std.specs.Prelude.{◌≡◌, ℕ, IfOk, IsSome, Some};
+ghost use Rattle.std.specs.Prelude.{◌≡◌, ℕ, false, IfOk, IsSome, Some};
 ghost use Rattle.hrana_stmt.specs.Codes.{error_of};
 ghost use Rattle.hrana_batch.specs.declared.outcomes.Outcome.{Outcome};
 ghost use Rattle.stream_task.specs.declared.session.TxnState.{TxnState};
 ghost use Rattle.stream_task.specs.declared.table.Went.{Went};
-ghost use Rattle.stream_task.specs.Table.{shown, empty_result, outcome_of, code_of, cause_of, takes, takes_alone, begun_by, takes_begun, takes_ran, takes_upgrade, takes_ended, IsTaken};
+ghost use Rattle.stream_task.specs.Table.{shown, empty_result, outcome_of, code_of, cause_of, takes, takes_alone, begun_by, takes_begun, takes_ran, takes_upgrade, takes_ended, IsTaken, is_waiting};
 
 use crate::session::{Cause, TxnState};
 use crate::table::{Row, Went};
@@ -82,7 +82,8 @@ fn cause_of(cause: Broken) -> Cause
 
 /// The statement's outcome is the answer of the engine.
 fn answered(alloc: Global, want_rows: bool, state: TxnState, answer: &Answer) -> Went
-    ensures { IsTaken (Some (Went.Out (outcome_of want_rows answer.now) state)) result }
+    ensures taken { IsTaken (Some (Went.Out (outcome_of want_rows answer.now) state)) result }
+    ensures goes { is_waiting result ≡ false }
 {
     match outcome_of(alloc, want_rows, answer) {
         Ok(outcome) => Went::Out(outcome, state),
@@ -92,7 +93,8 @@ fn answered(alloc: Global, want_rows: bool, state: TxnState, answer: &Answer) ->
 
 /// The statement fails with this code.
 pub(crate) fn refused(alloc: Global, code: Code, state: TxnState) -> Went
-    ensures { IsTaken (Some (Went.Out (Outcome.Failed (error_of code)) state)) result }
+    ensures taken { IsTaken (Some (Went.Out (Outcome.Failed (error_of code)) state)) result }
+    ensures goes { is_waiting result ≡ false }
 {
     match wire_error(alloc, code) {
         Ok(error) => Went::Out(Outcome::Failed(error), state),
@@ -102,7 +104,8 @@ pub(crate) fn refused(alloc: Global, code: Code, state: TxnState) -> Went
 
 /// The statement gives the empty result.
 pub(crate) fn emptied(alloc: Global, state: TxnState) -> Went
-    ensures { result ≡ Went.Out (Outcome.Done empty_result) state }
+    ensures taken { result ≡ Went.Out (Outcome.Done empty_result) state }
+    ensures goes { is_waiting result ≡ false }
 {
     Went::Out(Outcome::Done(empty_result(alloc)), state)
 }
@@ -110,7 +113,8 @@ pub(crate) fn emptied(alloc: Global, state: TxnState) -> Went
 /// What the entry of a statement that ran alone means.
 fn took_alone(alloc: Global, want_rows: bool, state: TxnState, entry: &Entry) -> Went
     requires { IsSome (takes_alone want_rows state entry.now) }
-    ensures { IsTaken (takes_alone want_rows state entry.now) result }
+    ensures taken { IsTaken (takes_alone want_rows state entry.now) result }
+    ensures goes { is_waiting result ≡ false }
 {
     match entry {
         Entry::Alone { answer, .. } => answered(alloc, want_rows, state, answer),
@@ -138,7 +142,8 @@ fn begun_of(entry: &Entry) -> Result<u64, Code>
 /// What the entry of a unit that began with a statement of its own means.
 fn took_begin(alloc: Global, state: TxnState, entry: &Entry) -> Went
     requires { IsSome (begun_by entry.now) }
-    ensures { takes_begun state (λ unit. Went.Out (Outcome.Done empty_result) (TxnState.Writing unit)) (begun_by entry.now) ≡ Some result }
+    ensures taken { takes_begun state (λ unit. Went.Out (Outcome.Done empty_result) (TxnState.Writing unit)) (begun_by entry.now) ≡ Some result }
+    ensures goes { is_waiting result ≡ false }
 {
     match begun_of(entry) {
         Ok(unit) => emptied(alloc, TxnState::Writing { unit }),
@@ -149,7 +154,8 @@ fn took_begin(alloc: Global, state: TxnState, entry: &Entry) -> Went
 /// What the entry of a unit that began for a statement means, where the statement writes.
 fn took_writer(state: TxnState, entry: &Entry) -> Went
     requires { IsSome (begun_by entry.now) }
-    ensures { takes_begun state (λ unit. Went.Still (TxnState.Writing unit)) (begun_by entry.now) ≡ Some result }
+    ensures taken { takes_begun state (λ unit. Went.Still (TxnState.Writing unit)) (begun_by entry.now) ≡ Some result }
+    ensures goes { is_waiting result ≡ false }
 {
     match begun_of(entry) {
         Ok(unit) => Went::Still(TxnState::Writing { unit }),
@@ -160,7 +166,8 @@ fn took_writer(state: TxnState, entry: &Entry) -> Went
 /// What the entry of a unit that began for a read means, at this version.
 fn took_reader(version: u64, state: TxnState, entry: &Entry) -> Went
     requires { IsSome (begun_by entry.now) }
-    ensures { takes_begun state (λ unit. Went.Still (TxnState.Reading unit version)) (begun_by entry.now) ≡ Some result }
+    ensures taken { takes_begun state (λ unit. Went.Still (TxnState.Reading unit version)) (begun_by entry.now) ≡ Some result }
+    ensures goes { is_waiting result ≡ false }
 {
     match begun_of(entry) {
         Ok(unit) => Went::Still(TxnState::Reading { unit, had: version }),
@@ -171,7 +178,8 @@ fn took_reader(version: u64, state: TxnState, entry: &Entry) -> Went
 /// What the entry of a statement that ran in a unit means.
 fn took_ran(alloc: Global, want_rows: bool, state: TxnState, entry: &Entry) -> Went
     requires { IsSome (takes_ran want_rows state entry.now) }
-    ensures { IsTaken (takes_ran want_rows state entry.now) result }
+    ensures taken { IsTaken (takes_ran want_rows state entry.now) result }
+    ensures goes { is_waiting result ≡ false }
 {
     match entry {
         Entry::Ran { answer, .. } => answered(alloc, want_rows, state, answer),
@@ -187,7 +195,8 @@ fn took_ran(alloc: Global, want_rows: bool, state: TxnState, entry: &Entry) -> W
 /// What the entry of a unit that ended means.
 fn took_ended(alloc: Global, entry: &Entry) -> Went
     requires { IsSome (takes_ended entry.now) }
-    ensures { takes_ended entry.now ≡ Some result }
+    ensures taken { takes_ended entry.now ≡ Some result }
+    ensures goes { is_waiting result ≡ false }
 {
     match entry {
         Entry::Ended { .. } => emptied(alloc, TxnState::Auto),
@@ -209,7 +218,8 @@ fn took_upgrade(
     entry: &Entry,
 ) -> Went
     requires { IsSome (takes_upgrade want_rows state unit entry.now) }
-    ensures { IsTaken (takes_upgrade want_rows state unit entry.now) result }
+    ensures taken { IsTaken (takes_upgrade want_rows state unit entry.now) result }
+    ensures goes { is_waiting result ≡ false }
 {
     match entry {
         Entry::Denied { .. } => refused(alloc, Code::Busy, state),
@@ -227,7 +237,8 @@ pub(crate) fn took(
     entry: &Entry,
 ) -> Went
     requires { IsSome (takes (λ unit. version) want_rows state row entry.now) }
-    ensures { IsTaken (takes (λ unit. version) want_rows state row entry.now) result }
+    ensures taken { IsTaken (takes (λ unit. version) want_rows state row entry.now) result }
+    ensures goes { is_waiting result ≡ false }
 {
     match row {
         Row::Alone | Row::ReadAlone => took_alone(alloc, want_rows, state, entry),

@@ -29,5 +29,6 @@ returns-clause-runs g c = record {
   turn = c.settle_turn.ensures;
   cause = c.act-entry.ensures.cause;
   refused = c.act-entry.ensures.refused;
-  taken = subst (λ (v : ℕ). IsTaken (takes (λ unit. v) c.args.want_rows c.args.state c.args.row c.act-entry.result) c.took-went.result) c.version-version.ensures c.took-went.ensures;
+  taken = subst (λ (v : ℕ). IsTaken (takes (λ unit. v) c.args.want_rows c.args.state c.args.row c.act-entry.result) c.took-went.result) c.version-version.ensures c.took-went.ensures.taken;
+  goes = c.took-went.ensures.goes;
 }
