@@ -8,6 +8,7 @@ pub mod CheckLemmas
 pub mod StepLemmas
 pub mod TodoLemmas
 pub mod AdvanceLemmas
+pub mod TurnLemmas
 pub mod MeansLemmas
 pub mod RequestLemmas
 pub mod TaskLemmas

@@ -21,5 +21,5 @@ mod work;
 
 pub use laws::{each_poll_leaves_the_meaning, each_reply_is_meant, replies_stand_in_order};
 pub use session::{Cause, TxnState};
-pub use task::{Poll, Stepped, StreamTask};
+pub use task::{Poll, Stepped, StreamTask, Task};
 pub use texts::{StoredText, StoredTexts};
