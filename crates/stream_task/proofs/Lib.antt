@@ -2,3 +2,6 @@
 --   check                                     checks/check, by CheckLemmas
 pub mod CheckLemmas
 pub mod RowLemmas
+pub mod TurnLemmas
+pub mod OriginLemmas
+pub mod MovedLemmas
