@@ -5,3 +5,4 @@ pub mod RowLemmas
 pub mod TurnLemmas
 pub mod OriginLemmas
 pub mod MovedLemmas
+pub mod AgreeLemmas

@@ -82,7 +82,7 @@ moves_begin_read s next (entry.Began u by) t ne h = record { turn = refl; versio
 moves_begin_read s next (entry.Failed by None why) t ne h = record { turn = given_other t.turn s ne; version = refl; reserved = refl }
 moves_begin_read s next e t ne h = absurd h
 
-kept_turn : (s : StreamNo) (b : Bool) (o : Option StreamNo) → o ≡ Some s → o ≡ cond b (Some s) o
+pub kept_turn : (s : StreamNo) (b : Bool) (o : Option StreamNo) → o ≡ Some s → o ≡ cond b (Some s) o
 kept_turn s true o e = e
 kept_turn s false o e = refl
 
@@ -93,7 +93,7 @@ moves_ran s q u writes (entry.Ran v p a) t keeps h =
 moves_ran s q u writes (entry.Failed by (Some v) why) t keeps h = record { turn = refl; version = refl; reserved = refl }
 moves_ran s q u writes e t keeps h = absurd h
 
-reader_keeps : (s : StreamNo) (c : Class) (o : Option StreamNo) → c ≡ class.Read → (b : Bool) → is_write c ≡ b → o ≡ cond b (Some s) o
+pub reader_keeps : (s : StreamNo) (c : Class) (o : Option StreamNo) → c ≡ class.Read → (b : Bool) → is_write c ≡ b → o ≡ cond b (Some s) o
 reader_keeps s c o r true e = absurd (true_not_false (sym e ∙ read_no_write c r))
 reader_keeps s c o r false e = refl
 

@@ -106,13 +106,13 @@ write_is c e = ap is_write e
 read_not_write : (c : Class) → c ≡ class.Read → c ≡ class.Write → ⊥
 read_not_write c r w = true_not_false (sym (write_is c w) ∙ read_no_write c r)
 
-read_fits : (c : Class) → c ≡ class.Read → IsReadOrWrite c
+pub read_fits : (c : Class) → c ≡ class.Read → IsReadOrWrite c
 read_fits c e = subst IsReadOrWrite (sym e) tt
 
-write_fits : (c : Class) → c ≡ class.Write → IsReadOrWrite c
+pub write_fits : (c : Class) → c ≡ class.Write → IsReadOrWrite c
 write_fits c e = subst IsReadOrWrite (sym e) tt
 
-some_is : {X : Type 0} (o : Option X) (x : X) → o ≡ Some x → IsSome o
+pub some_is : {X : Type 0} (o : Option X) (x : X) → o ≡ Some x → IsSome o
 some_is None x e = absurd (none_some e)
 some_is (Some y) x e = refl
 
