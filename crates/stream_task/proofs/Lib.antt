@@ -6,3 +6,5 @@ pub mod TurnLemmas
 pub mod OriginLemmas
 pub mod MovedLemmas
 pub mod AgreeLemmas
+pub mod KeepLemmas
+pub mod AddsLemmas

@@ -1,6 +1,5 @@
-use Rattle.stream_task.proofs.OriginLemmas.{may_act}
-use Rattle.stream_task.proofs.MovedLemmas.{moves}
-use Rattle.stream_task.proofs.AgreeLemmas.{comes_from}
+use Rattle.std.proofs.Common.{sym, ◌∙◌}
+use Rattle.stream_task.proofs.AddsLemmas.{Starts, ran_facts, adds_ran}
 use Rattle.stream_task.proofs.statement.poll_row.Goals as goal
 
 pub returns-in-Taken-clause-adds : goal.returns-in-Taken-clause-adds
