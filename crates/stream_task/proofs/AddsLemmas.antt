@@ -1,5 +1,5 @@
 -- The entry of a poll of a statement.
-use Rattle.std.proofs.Common.{◌≡◌, ◌≢◌, ◌≤◌, ◌<◌, ◌+◌, ◌++◌, ◌∷◌, [], ℕ, Bool, true, false, cond, Option, Some, None, Result, Ok, Err, IsTrue, refl, sym, ap, ◌∙◌, subst, arith, inl, inr}
+use Rattle.std.proofs.Common.{◌≡◌, ◌≢◌, ◌≤◌, ◌<◌, ◌+◌, ◌++◌, ◌∷◌, [], ℕ, Bool, true, false, cond, Option, Some, None, Result, Ok, Err, IsTrue, refl, sym, ap, ◌∙◌, subst, arith, append-nil}
 use Rattle.std.specs.Option.{IsSome, IsSomeAnd}
 use Rattle.serial_order.proofs.Check.{some_and}
 use Rattle.hrana_value.specs.declared.StreamNo.{StreamNo}
@@ -185,12 +185,92 @@ adds_ran shared told m db live faults s engine engine' t held t' old new st want
 
 -- ---- a reader that may not write
 
-denied_row : {D : Type 0} (shared told : Bool) (db : D) (live : Lives D) (t : Turns) (s : StreamNo) (c : Class) (st : TxnState) (r : Row) (why : Deny)
-    → Stands shared c st r → AgreesAs told db live t s st → turn_given t (need_of r) ≡ Denied why → (u : ℕ) × (had : ℕ) × (r ≡ row.Upgrade u had) × IsDenied t had why × (table_given t s (need_of r) ≡ t) × IsSome (live u)
-denied_row shared told db live t s c Auto row.Alone why h a e = absurd (alone_not_denied t why e)
-denied_row shared told db live t s c Auto row.Begin why h a e = absurd (begin_not_denied t why e)
-denied_row shared told db live t s c Deferred row.BeginFirst why h a e = absurd (begin_not_denied t why e)
-denied_row shared told db live t s c (Reading v began) (row.Upgrade u had) why h a e =
-    let d = upgrade_denied s t had why e in
-    (u, had, refl, d.0, d.1, subst (λ n. IsSome (live n)) (sym h.0) a.lives)
-denied_row shared told db live t s c st r why h a e = absurd ?
+-- only a reader that is to write is denied, and the table stays
+pub record DeniedBy (s : StreamNo) (t : Turns) (r : Row) (why : Deny) : Type 0 where
+  pub unit : ℕ
+  pub had : ℕ
+  pub is : r ≡ row.Upgrade unit had
+  pub by_table : IsDenied t had why
+  pub stays : table_given t s (need_of r) ≡ t
+
+pub denied_by : (s : StreamNo) (t : Turns) (r : Row) (why : Deny) → turn_given t (need_of r) ≡ Denied why → DeniedBy s t r why
+denied_by s t row.Alone why e = absurd (alone_not_denied t why e)
+denied_by s t row.Begin why e = absurd (begin_not_denied t why e)
+denied_by s t row.BeginFirst why e = absurd (begin_not_denied t why e)
+denied_by s t (row.Upgrade u had) why e = let d = upgrade_denied s t had why e in record { unit = u; had = had; is = refl; by_table = d.0; stays = d.1 }
+denied_by s t r why e = absurd (cc)
+
+unit_lives : {D : Type 0} (shared told : Bool) (db : D) (live : Lives D) (t : Turns) (s : StreamNo) (c : Class) (st : TxnState) (u had : ℕ) → Stands shared c st (row.Upgrade u had) → AgreesAs told db live t s st → IsSome (live u)
+unit_lives shared told db live t s c (Reading v began) u had h a = subst (λ n. IsSome (live n)) (sym h.0) a.lives
+unit_lives shared told db live t s c st u had h a = absurd h
+
+pub denied_lives : {D : Type 0} (shared told : Bool) (db : D) (live : Lives D) (t : Turns) (next : ℕ) (s : StreamNo) (q : BoundStmt) (st : TxnState) (r : Row) (why : Deny)
+    → Starts shared told db live t next s q st r → (d : DeniedBy s t r why) → IsSome (live d.unit)
+denied_lives shared told db live t next s q st r why start d =
+    unit_lives shared told db live t s q.class st d.unit d.had (subst (λ (x : Row). Stands shared q.class st x) d.is (stands shared q.class st r start.row)) start.agrees
+
+may_deny : (t : Turns) (next : ℕ) (s : StreamNo) (q : BoundStmt) (u had : ℕ) (why : Deny) → IsDenied t had why → MayUpgrade (seen_in t next) s q u had (entry.Denied u why)
+may_deny t next s q u had (deny.Stale began now) d = (refl, d.0, d.1, d.2)
+may_deny t next s q u had (deny.Held by) d = (refl, d.0, d.1)
+
+rose_none : (n : ℕ) → RoseBy 0 n n
+rose_none n = omega arith
+
+pub adds_denied : {X D : Type 0} (told : Bool) (m : Meaning D BoundStmt Answer) (db : X → D) (live : X → Lives D) (faults : X → ℕ) (s : StreamNo) (engine : X) (t t' : Turns) (old new : Noted) (st : TxnState) (want : Bool) (q : BoundStmt) (r : Row) (why : Deny) (went : Went)
+    → (d : DeniedBy s t r why) → IsSome (live engine d.unit) → t' ≡ t → Denies st r why old new went
+    → AddsOne told m db live faults s engine engine t t' old new (is_waiting went) (RowGoes s (seen_in t old.next) st want q r went)
+adds_denied told m db live faults s engine t t' old new st want q r why Waits d lives stays h = absurd (cc)
+adds_denied told m db live faults s engine t t' old new st want q r why (Still next) d lives stays h = absurd (cc)
+adds_denied told m db live faults s engine t t' old new st want q r why (Stopped c next) d lives stays h = absurd (cc)
+adds_denied told m db live faults s engine t t' old new st want q r why (Short left) d lives stays h = record {
+  added = None;
+  grew = ap (λ (x : Noted). x.list) h.1 ∙ sym (append-nil old.list);
+  next = ap (λ (x : Noted). x.next) h.1;
+  writes = false;
+  effects = record { database = refl; lives = λ n. refl };
+  untouched = refl;
+  moved = record { from = tt; turn = ap (λ (x : Turns). x.turn) stays; version = ap (λ (x : Turns). x.version) stays; reserved = ap (λ (x : Turns). x.reserved) stays; rests = stays };
+  cause = rose_none (faults engine);
+  refused = tt;
+  holds = λ ready is_ready. h.0;
+}
+adds_denied told m db live faults s engine t t' old new st want q r why (Out x next) d lives stays h =
+    let pushed : HasPushed old new (entry.Denied d.unit why) = h.1 d.unit d.had d.is in
+    record {
+      added = Some (entry.Denied d.unit why);
+      grew = pushed.grew;
+      next = pushed.next;
+      writes = false;
+      effects = record { database = refl; lives = λ n. refl };
+      untouched = tt;
+      moved = record { from = lives; turn = ap (λ (x : Turns). x.turn) stays; version = ap (λ (x : Turns). x.version) stays; reserved = ap (λ (x : Turns). x.reserved) stays; rests = refl };
+      cause = rose_none (faults engine);
+      refused = tt;
+      holds = λ ready is_ready.
+          subst (λ (y : Row). Acts s (seen_in t old.next) st want ready y (entry.Denied d.unit why) (Out x next)) (sym d.is)
+          (record {
+            stmt = q;
+            is_ready = is_ready;
+            free = λ w. absurd (true_not_false (sym w));
+            may = may_deny t old.next s q d.unit d.had why d.by_table;
+            means = ap Some (sym h.0);
+          });
+    }
+
+pub agrees_denied : {D : Type 0} (told : Bool) (db : D) (live : Lives D) (t t' : Turns) (old new : Noted) (s : StreamNo) (st : TxnState) (r : Row) (why : Deny) (went : Went)
+    → AgreesAs told db live t s st → t' ≡ t → Denies st r why old new went → AgreesAs told db live t' s (state_after st went)
+agrees_denied told db live t t' old new s st r why Waits a stays h = subst (λ (x : Turns). AgreesAs told db live x s st) (sym stays) a
+agrees_denied told db live t t' old new s st r why (Still next) a stays h = absurd (cc)
+agrees_denied told db live t t' old new s st r why (Stopped c next) a stays h = absurd (cc)
+agrees_denied told db live t t' old new s st r why (Short left) a stays h =
+    subst (λ (y : TxnState). AgreesAs told db live t' s y) (sym h.0) (subst (λ (x : Turns). AgreesAs told db live x s st) (sym stays) a)
+agrees_denied told db live t t' old new s st r why (Out o next) a stays h =
+    let same : st ≡ next = cc in
+    subst (λ (y : TxnState). AgreesAs told db live t' s y) same (subst (λ (x : Turns). AgreesAs told db live x s st) (sym stays) a)
+
+pub below_denied : {D : Type 0} (live : Lives D) (old new : Noted) (s : StreamNo) (t : Turns) (st : TxnState) (r : Row) (why : Deny) (went : Went) → DeniedBy s t r why → AreBelow live old.next → Denies st r why old new went → AreBelow live new.next
+below_denied live old new s t st r why Waits d below h = absurd (cc)
+below_denied live old new s t st r why (Still next) d below h = absurd (cc)
+below_denied live old new s t st r why (Stopped c next) d below h = absurd (cc)
+below_denied live old new s t st r why (Short left) d below h = subst (λ (n : ℕ). AreBelow live n) (sym (ap (λ (x : Noted). x.next) h.1)) below
+below_denied live old new s t st r why (Out o next) d below h = subst (λ (n : ℕ). AreBelow live n) (sym (h.1 d.unit d.had d.is).next) below
