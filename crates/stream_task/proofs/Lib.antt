@@ -8,8 +8,14 @@ pub mod CheckLemmas
 pub mod StepLemmas
 pub mod TodoLemmas
 pub mod AdvanceLemmas
-pub mod TurnLemmas
+pub mod EndLemmas
 pub mod MeansLemmas
 pub mod RequestLemmas
 pub mod TaskLemmas
 pub mod RowLemmas
+pub mod TurnLemmas
+pub mod OriginLemmas
+pub mod MovedLemmas
+pub mod AgreeLemmas
+pub mod KeepLemmas
+pub mod AddsLemmas

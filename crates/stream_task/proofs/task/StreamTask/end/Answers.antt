@@ -1,6 +1,6 @@
 use Rattle.std.proofs.Common.{All, ◌≢◌, ap, subst}
 use Rattle.stream_task.specs.Polls.{Task}
-use Rattle.stream_task.proofs.TurnLemmas.{none_waits}
+use Rattle.stream_task.proofs.EndLemmas.{none_waits}
 use Rattle.stream_task.proofs.task.StreamTask.end.Goals as goal
 
 pub returns-clause-waits : goal.returns-clause-waits
