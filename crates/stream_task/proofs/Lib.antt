@@ -3,7 +3,9 @@
 --   StepRun                                   steps/StepRun, by StepLemmas
 --   sequence_of_text                          cutting/, by StepLemmas
 --   each_poll_leaves_the_meaning, each_reply_is_meant      laws/, by RequestLemmas over MeansLemmas
---   replies_stand_in_order                    laws/, by TaskLemmas
+--   replies_stand_in_order, shut_streams_add_nothing       laws/, by TaskLemmas
+--   poll_running, advance                     advance/, by AdvanceLemmas over TodoLemmas
+--   StreamTask::end: waits                    task/StreamTask/end, by EndLemmas
 pub mod CheckLemmas
 pub mod StepLemmas
 pub mod TodoLemmas

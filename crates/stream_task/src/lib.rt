@@ -19,7 +19,10 @@ mod todo;
 mod turns;
 mod work;
 
-pub use laws::{each_poll_leaves_the_meaning, each_reply_is_meant, replies_stand_in_order};
+pub use laws::{
+    each_poll_leaves_the_meaning, each_reply_is_meant, replies_stand_in_order,
+    shut_streams_add_nothing,
+};
 pub use session::{Cause, TxnState};
 pub use task::{Poll, Stepped, StreamTask, Task};
 pub use texts::{StoredText, StoredTexts};

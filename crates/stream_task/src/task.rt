@@ -47,12 +47,7 @@ pub trait Task<E: Engine> {
     ghost seen: { Self → Stream };
 
     /// One poll: at most one statement runs, and at most one entry is added, of this stream.
-    fn poll(
-        &mut self,
-        engine: &mut E,
-        turns: &mut TxnTable,
-        entries: &mut Entries,
-    ) -> Poll<Stepped>
+    fn poll(&mut self, engine: &mut E, turns: &mut TxnTable, entries: &mut Entries) -> Poll<Stepped>
         requires agrees { AgreesAs E.told (E.db engine.old) (E.live engine.old) turns.old (seen self.old).stream (seen self.old).session.state }
         requires reserved { is_shut (seen self.old).session.state ≡ false → IsTrue (has (seen self.old).stream turns.old.reserved) }
         requires below { AreBelow (E.live engine.old) entries.old.next }
@@ -155,11 +150,7 @@ fn dead_cause(how: Undo) -> Cause
 
 impl StreamTask {
     /// A stream in autocommit that was asked nothing. `texts_inside` says that stored texts belong to it.
-    pub fn new(
-        alloc: Global,
-        stream: StreamNo,
-        texts_inside: bool,
-    ) -> Result<StreamTask, NoMemory>
+    pub fn new(alloc: Global, stream: StreamNo, texts_inside: bool) -> Result<StreamTask, NoMemory>
         ensures { IfOk result (λ task. task ≡ new_task stream texts_inside) }
     {
         Ok(StreamTask {
@@ -252,6 +243,11 @@ impl<E: Engine> Task<E> for StreamTask {
             &self.texts,
             work,
         );
-        settle(&mut self.state, &mut self.running, &mut self.queue, advanced)
+        settle(
+            &mut self.state,
+            &mut self.running,
+            &mut self.queue,
+            advanced,
+        )
     }
 }
