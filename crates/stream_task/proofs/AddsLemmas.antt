@@ -1,5 +1,5 @@
 -- The entry of a poll of a statement.
-use Rattle.std.proofs.Common.{◌≡◌, ◌≢◌, ◌≤◌, ◌<◌, ◌+◌, ◌++◌, ◌∷◌, [], ℕ, Bool, true, false, cond, Option, Some, None, Result, Ok, Err, IsTrue, refl, sym, ap, ◌∙◌, subst, arith, append-nil}
+use Rattle.std.proofs.Common.{◌⊎◌, inl, inr, ◌≡◌, ◌≢◌, ◌≤◌, ◌<◌, ◌+◌, ◌++◌, ◌∷◌, [], List, ℕ, Bool, true, false, cond, Option, Some, None, Result, Ok, Err, IsTrue, refl, sym, ap, ◌∙◌, subst, arith, append-nil}
 use Rattle.std.specs.Option.{IsSome, IsSomeAnd}
 use Rattle.serial_order.proofs.Check.{some_and}
 use Rattle.hrana_value.specs.declared.StreamNo.{StreamNo}
@@ -12,7 +12,7 @@ use Rattle.hrana_batch.specs.declared.outcomes.Outcome.TheVariants.{Failed as Fa
 use Rattle.sql_text.specs.declared.class.Class.{Class}
 use Rattle.sql_text.specs.declared.prepared.Prepared.{Prepared}
 use Rattle.serial_order.specs.Serial.{Meaning}
-use Rattle.txn_table.specs.Turns.{Turns, given_back}
+use Rattle.txn_table.specs.Turns.{Turns, given_back, after_end}
 use Rattle.txn_table.specs.declared.table.Need.TheVariants as need
 use Rattle.txn_table.proofs.StreamLemmas.{true_not_false}
 use Rattle.engine_core.specs.Causes.{RoseBy}
@@ -24,12 +24,15 @@ use Rattle.engine_core.specs.declared.statement.BoundStmt.{BoundStmt}
 use Rattle.engine_core.specs.declared.entries.Answer.{Answer}
 use Rattle.engine_core.specs.declared.entries.Deny.{Deny}
 use Rattle.engine_core.specs.declared.entries.Deny.TheVariants as deny
+use Rattle.engine_core.specs.declared.entries.How.TheVariants as how
+use Rattle.engine_core.specs.declared.entries.Undo.{Undo}
 use Rattle.engine_core.specs.declared.entries.Entry.{Entry}
 use Rattle.engine_core.specs.declared.entries.Entry.TheVariants as entry
-use Rattle.stream_task.specs.Adds.{AddsOne, Acts, RowPolls, seen_in, next_by, PollsStatement, ReadyPolls}
-use Rattle.stream_task.specs.Checks.{IsReady, ready_of}
-use Rattle.stream_task.specs.Effect.{Effects}
-use Rattle.stream_task.specs.Moved.{Moved, ComesFrom, AgreesAs, AreBelow, WritesByTurn, LivesByTurn, StaysOne, turn_by, turn_given, table_given, settled}
+use Rattle.stream_task.specs.Adds.{AddsOne, Acts, RowPolls, PlanPolls, seen_in, next_by, PollsStatement, ReadyPolls, Falls, undone_of}
+use Rattle.stream_task.specs.Checks.{IsReady, IsReadyOf, ready_of}
+use Rattle.stream_task.specs.Effect.{Effect, Effects}
+use Rattle.stream_task.specs.Moved.{Moved, ComesFrom, GoneFrom, AgreesAs, AreBelow, WritesByTurn, LivesByTurn, StaysOne, turn_by, turn_given, table_given, settled}
+use Rattle.stream_task.specs.Session.{unit_of}
 use Rattle.stream_task.specs.Statement.{HasPushed, Denies, RunsRow, RowEnds, RowGoes, RowFalls}
 use Rattle.stream_task.specs.Table.{Seen, plan, need_of, wants_turn, begins_writer, MayAdd, MayBegin, MayBeAlone, MayRun, MayCommit, MayUpgrade, takes, left_by, is_waiting, state_after, IsTaken}
 use Rattle.stream_task.specs.declared.session.TxnState.{TxnState}
@@ -45,7 +48,7 @@ use Rattle.stream_task.specs.declared.turns.Turn.TheVariants.{Taken, Denied}
 use Rattle.stream_task.proofs.TurnLemmas.{none_some, took_alone, took_begin, took_upgrade, IsDenied, alone_not_denied, begin_not_denied, upgrade_denied}
 use Rattle.stream_task.proofs.OriginLemmas.{Stands, stands, is_granted}
 use Rattle.stream_task.proofs.MovedLemmas.{Moves, moves}
-use Rattle.stream_task.proofs.AgreeLemmas.{comes_from, agrees_left, agrees_after}
+use Rattle.stream_task.proofs.AgreeLemmas.{comes_from, agrees_left, agrees_after, reader_gone, writer_gone}
 use Rattle.stream_task.proofs.KeepLemmas.{below_after, writers_after, one_after, BeginsAlone}
 
 -- ---- what came of a row
@@ -274,3 +277,107 @@ below_denied live old new s t st r why (Still next) d below h = absurd (cc)
 below_denied live old new s t st r why (Stopped c next) d below h = absurd (cc)
 below_denied live old new s t st r why (Short left) d below h = subst (λ (n : ℕ). AreBelow live n) (sym (ap (λ (x : Noted). x.next) h.1)) below
 below_denied live old new s t st r why (Out o next) d below h = subst (λ (n : ℕ). AreBelow live n) (sym (h.1 d.unit d.had d.is).next) below
+
+-- ---- a statement that passed its checks
+
+pub adds_weaker : {X D : Type 0} (told : Bool) (m : Meaning D BoundStmt Answer) (db : X → D) (live : X → Lives D) (faults : X → ℕ) (s : StreamNo) (engine engine' : X) (t t' : Turns) (old new : Noted) (waits : Bool) (P Q : Option Entry → Type 0)
+    → ((added : Option Entry) → P added → Q added) → AddsOne told m db live faults s engine engine' t t' old new waits P → AddsOne told m db live faults s engine engine' t t' old new waits Q
+adds_weaker told m db live faults s engine engine' t t' old new waits P Q h a = record {
+  added = a.added;
+  grew = a.grew;
+  next = a.next;
+  writes = a.writes;
+  effects = a.effects;
+  untouched = a.untouched;
+  moved = a.moved;
+  cause = a.cause;
+  refused = a.refused;
+  holds = h a.added a.holds;
+}
+
+ready_polls : (shared : Bool) (s : StreamNo) (seen : Seen) (st : TxnState) (want : Bool) (expected : Result Prepared Code) (ready : Prepared) (r : Row) (added : Option Entry) (went : Went)
+    → expected ≡ Ok ready → plan shared st ready.class ≡ Adds r → RowPolls s seen st want ready r added went → ReadyPolls shared s seen st want expected added went
+ready_polls shared s seen st want expected ready r added went passed planned h =
+    subst (λ (x : Result Prepared Code). ReadyPolls shared s seen st want x added went) (sym passed)
+    (subst (λ (x : Plan). PlanPolls s seen st want ready x added went) (sym planned) h)
+
+falls : (shared : Bool) (s : StreamNo) (seen : Seen) (st : TxnState) (want : Bool) (expected : Result Prepared Code) (ready : Prepared) (r : Row) (added : Option Entry) (left : TxnState)
+    → expected ≡ Ok ready → plan shared st ready.class ≡ Adds r → RowFalls s seen st want ready r added left → Falls shared s seen st want expected added left
+falls shared s seen st want expected ready r None left passed planned h = h
+falls shared s seen st want expected ready r (Some e) left passed planned h =
+    record { went = h.went; polls = ready_polls shared s seen st want expected ready r (Some e) h.went passed planned h.acts; left_is = h.left_is }
+
+pub statement_polls : (shared : Bool) (s : StreamNo) (seen : Seen) (st : TxnState) (texts : List StoredText) (stmt : Stmt) (ready : Prepared) (r : Row) (went : Went) (added : Option Entry)
+    → ready_of texts stmt ≡ Ok ready → plan shared st ready.class ≡ Adds r → RowEnds s seen st stmt.want_rows ready r went added → PollsStatement shared s seen st texts stmt added went
+statement_polls shared s seen st texts stmt ready r Waits added passed planned h = ready_polls shared s seen st stmt.want_rows (ready_of texts stmt) ready r added Waits passed planned h
+statement_polls shared s seen st texts stmt ready r (Still next) added passed planned h = ready_polls shared s seen st stmt.want_rows (ready_of texts stmt) ready r added (Still next) passed planned h
+statement_polls shared s seen st texts stmt ready r (Out o next) added passed planned h = ready_polls shared s seen st stmt.want_rows (ready_of texts stmt) ready r added (Out o next) passed planned h
+statement_polls shared s seen st texts stmt ready r (Stopped c next) added passed planned h = ready_polls shared s seen st stmt.want_rows (ready_of texts stmt) ready r added (Stopped c next) passed planned h
+statement_polls shared s seen st texts stmt ready r (Short left) added passed planned h = falls shared s seen st stmt.want_rows (ready_of texts stmt) ready r added left passed planned h
+
+pub statement_row : (shared : Bool) (s : StreamNo) (seen : Seen) (st : TxnState) (texts : List StoredText) (stmt : Stmt) (q : BoundStmt) (r : Row) (went : Went)
+    → IsReadyOf (ready_of texts stmt) q → plan shared st q.class ≡ Adds r → (added : Option Entry) → RowGoes s seen st stmt.want_rows q r went added → PollsStatement shared s seen st texts stmt added went
+statement_row shared s seen st texts stmt q r went passed planned added h =
+    statement_polls shared s seen st texts stmt passed.ready r went added passed.passed (subst (λ (c : Class). plan shared st c ≡ Adds r) passed.is_ready.class planned) (h passed.ready passed.is_ready)
+
+-- ---- the end of a unit
+
+-- the unit of this state is taken back
+pub record Undoes {D : Type 0} (shared told : Bool) (m : Meaning D BoundStmt Answer) (db : D) (live : Lives D) (db' : D) (live' : Lives D) (t t' : Turns) (old new : Noted) (s : StreamNo) (unit : ℕ) (why : Undo) : Type 0 where
+  pub from : ComesFrom told false db live old.next t s (Some (entry.Ended unit (how.Undone why)))
+  pub table : Moves s false (entry.Ended unit (how.Undone why)) t t'
+  pub effect : Effect told m false db live db' live' (entry.Ended unit (how.Undone why))
+  pub next : new.next ≡ old.next
+  pub below : AreBelow live' new.next
+  pub writers : WritesByTurn live' t'
+  pub one : StaysOne shared live live' t'
+
+unit_gone : {D : Type 0} (told : Bool) (db : D) (live : Lives D) (t : Turns) (s : StreamNo) (st : TxnState) (u : ℕ) → unit_of st ≡ Some u → AgreesAs told db live t s st → GoneFrom live t s u
+unit_gone told db live t s (Reading v had) u e a = let same : v ≡ u = cc in subst (λ n. GoneFrom live t s n) same (reader_gone told db live t s v had a)
+unit_gone told db live t s (Writing v) u e a = let same : v ≡ u = cc in subst (λ n. GoneFrom live t s n) same (writer_gone told db live t s v a)
+unit_gone told db live t s st u e a = absurd (none_some e)
+
+pub undoes : {D : Type 0} (shared told : Bool) (m : Meaning D BoundStmt Answer) (db : D) (live : Lives D) (db' : D) (live' : Lives D) (t t' : Turns) (old new : Noted) (s : StreamNo) (st : TxnState) (u : ℕ) (why : Undo) (e : Entry)
+    → ((y : BoundStmt) → m.is_write y ≡ is_write y.class) → unit_of st ≡ Some u → AgreesAs told db live t s st → AreBelow live old.next → WritesByTurn live t → LivesByTurn shared live t
+    → e ≡ entry.Ended u (how.Undone why) → ((writes : Bool) → Effect told m writes db live db' live' e) → t' ≡ after_end t s → new.next ≡ next_after old.next e
+    → Undoes shared told m db live db' live' t t' old new s u why
+undoes shared told m db live db' live' t t' old new s st u why e law unit a below writers quiet is effects ended next =
+    let end = entry.Ended u (how.Undone why) in
+    let effect : Effect told m false db live db' live' end = subst (λ (x : Entry). Effect told m false db live db' live' x) is (effects false) in
+    let from : GoneFrom live t s u = unit_gone told db live t s st u unit a in
+    let turn : t'.turn ≡ given_back t.turn s = ap (λ (x : Turns). x.turn) ended in
+    let same : new.next ≡ old.next = next ∙ ap (next_after old.next) is in
+    record {
+      from = from;
+      table = record { turn = turn; version = ap (λ (x : Turns). x.version) ended; reserved = ap (λ (x : Turns). x.reserved) ended };
+      effect = effect;
+      next = same;
+      below = subst (λ (n : ℕ). AreBelow live' n) (sym same) (below_after told m false db live db' live' old.next t s (Some end) effect from below);
+      writers = writers_after told m false db live db' live' old.next t t' s (Some end) law effect from turn writers;
+      one = one_after shared told m false db live db' live' old.next t t' s (Some end) effect from turn tt quiet;
+    }
+
+pub adds_undone : {X D : Type 0} (shared told : Bool) (m : Meaning D BoundStmt Answer) (db : X → D) (live : X → Lives D) (faults : X → ℕ) (s : StreamNo) (engine engine' : X) (t t' : Turns) (old new : Noted) (u : ℕ) (why : Undo) (e : Entry) (expected : Option Entry)
+    → Undoes shared told m (db engine) (live engine) (db engine') (live engine') t t' old new s u why → e ≡ entry.Ended u (how.Undone why) → new.list ≡ old.list ++ e ∷ []
+    → faults engine ≤ faults engine' → Some (entry.Ended u (how.Undone why)) ≡ expected
+    → AddsOne told m db live faults s engine engine' t t' old new false (λ added. added ≡ expected)
+adds_undone shared told m db live faults s engine engine' t t' old new u why e expected facts is grew later expects = record {
+  added = Some (entry.Ended u (how.Undone why));
+  grew = grew ∙ ap (λ (x : Entry). old.list ++ x ∷ []) is;
+  next = facts.next;
+  writes = false;
+  effects = facts.effect;
+  untouched = tt;
+  moved = record { from = facts.from; turn = facts.table.turn; version = facts.table.version; reserved = facts.table.reserved; rests = refl };
+  cause = omega arith;
+  refused = tt;
+  holds = expects;
+}
+
+pub open_unit : (st : TxnState) (u : ℕ) → ((had : ℕ) × (st ≡ Reading u had)) ⊎ (st ≡ Writing u) → unit_of st ≡ Some u
+open_unit st u (inl h) = ap unit_of h.1
+open_unit st u (inr h) = ap unit_of h
+
+pub undone_open : (why : Undo) (st : TxnState) (u : ℕ) → ((had : ℕ) × (st ≡ Reading u had)) ⊎ (st ≡ Writing u) → Some (entry.Ended u (how.Undone why)) ≡ undone_of why st
+undone_open why st u (inl h) = sym (ap (undone_of why) h.1)
+undone_open why st u (inr h) = sym (ap (undone_of why) h)
