@@ -6,6 +6,11 @@
 --   replies_stand_in_order, shut_streams_add_nothing       laws/, by TaskLemmas
 --   poll_running, advance                     advance/, by AdvanceLemmas over TodoLemmas
 --   StreamTask::end: waits                    task/StreamTask/end, by EndLemmas
+--   run_row                                   statement/run_row, by RowLemmas
+--   poll_row                                  statement/poll_row, by AddsLemmas over OriginLemmas (in which states a row stands), TurnLemmas,
+--                                             MovedLemmas (the table), AgreeLemmas (the stream after it) and KeepLemmas (engine and turn)
+--   poll_statement, end_unit: adds            statement/, by AddsLemmas
+--   act: effect                               act/act
 pub mod CheckLemmas
 pub mod StepLemmas
 pub mod TodoLemmas
