@@ -14,7 +14,7 @@ use Rattle.stream_task.specs.declared.work.Work.{Work}
 use Rattle.stream_task.specs.declared.advance.Advanced.{Advanced}
 use Rattle.stream_task.specs.declared.advance.Advanced.TheVariants.{Waits, Ran, Replied, Broke}
 use Rattle.stream_task.specs.declared.task.Poll.{Poll}
-use Rattle.stream_task.specs.declared.task.Poll.TheVariants.{Ready, Pending}
+use Rattle.stream_task.specs.declared.task.Poll.TheVariants.{Ready}
 use Rattle.stream_task.specs.declared.task.Stepped.{Stepped}
 use Rattle.stream_task.specs.declared.task.Stepped.TheVariants as stepped
 
