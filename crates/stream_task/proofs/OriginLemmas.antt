@@ -1,18 +1,14 @@
 -- In which states a row stands, and what it needs there of the engine and the turn.
-use Rattle.std.proofs.Common.{◌≡◌, ◌≢◌, ◌≤◌, ℕ, Bool, true, false, Option, Some, None, IsTrue, refl, sym, ap, ◌∙◌, subst, arith}
+use Rattle.std.proofs.Common.{◌≡◌, ℕ, Bool, true, false, Option, Some, None, IsTrue, refl, sym, ap, ◌∙◌, subst}
 use Rattle.std.specs.Option.{IsSome}
-use Rattle.hrana_value.specs.declared.StreamNo.{StreamNo}
 use Rattle.sql_text.specs.declared.class.Class.{Class}
 use Rattle.sql_text.specs.declared.class.Class.TheVariants as class
 use Rattle.sql_text.specs.declared.class.Mode.TheVariants as mode
 use Rattle.txn_table.specs.Turns.{Turns}
-use Rattle.txn_table.proofs.StreamLemmas.{true_not_false}
 use Rattle.engine_core.specs.Engine.{is_write, IsReadOrWrite}
 use Rattle.engine_core.specs.Transactions.{Lives, View, NoWriter, NoOtherWriter, StartsAt, MayCommit}
-use Rattle.engine_core.specs.declared.statement.BoundStmt.{BoundStmt}
-use Rattle.stream_task.specs.Act.{IsGranted, MayAct, MayRunIn}
-use Rattle.stream_task.specs.Moved.{AgreesAs, WritesIn, ReadsIn, AreBelow, WritesByTurn, LivesByTurn, turn_given, table_given}
-use Rattle.stream_task.specs.Statement.{HasTurn}
+use Rattle.stream_task.specs.Act.{IsGranted}
+use Rattle.stream_task.specs.Moved.{turn_given}
 use Rattle.stream_task.specs.Table.{plan, need_of}
 use Rattle.stream_task.specs.declared.session.TxnState.{TxnState}
 use Rattle.stream_task.specs.declared.session.TxnState.TheVariants.{Auto, Deferred, Reading, Writing, Dead, Closed}
@@ -20,7 +16,7 @@ use Rattle.stream_task.specs.declared.table.Row.{Row}
 use Rattle.stream_task.specs.declared.table.Row.TheVariants as row
 use Rattle.stream_task.specs.declared.table.Plan.TheVariants.{Adds}
 use Rattle.stream_task.specs.declared.turns.Turn.TheVariants.{Taken}
-use Rattle.stream_task.proofs.TurnLemmas.{none_some, some_one, took_alone, took_begin, took_upgrade, current_upgrade}
+use Rattle.stream_task.proofs.TurnLemmas.{none_some, some_one, took_upgrade, current_upgrade}
 
 -- ---- the states in which a row stands, by the class of its statement
 
