@@ -1,0 +1,86 @@
+-- The laws that join what polls do and what requests mean.
+use Rattle.std.specs.Prelude.{◌≡◌, ◌≢◌, ℕ, Bool, true, List, [], ◌∷◌, ◌++◌, Option, None, option_to_list}
+use Rattle.hrana_value.specs.declared.StreamNo.{StreamNo}
+use Rattle.stream_requests.specs.declared.replies.Reply.{Reply}
+use Rattle.engine_core.specs.declared.entries.Entry.{Entry}
+use Rattle.stream_task.specs.Session.{is_shut}
+use Rattle.stream_task.specs.Table.{Seen, IsVersioned}
+use Rattle.stream_task.specs.Doing.{Session, in_state}
+use Rattle.stream_task.specs.Means.{means, Meant, said}
+use Rattle.stream_task.specs.Advance.{PollsWork}
+use Rattle.stream_task.specs.Polls.{Polls, Task}
+use Rattle.stream_task.specs.declared.session.TxnState.{TxnState}
+use Rattle.stream_task.specs.declared.work.Work.{Work}
+use Rattle.stream_task.specs.declared.advance.Advanced.{Advanced}
+use Rattle.stream_task.specs.declared.advance.Advanced.TheVariants.{Waits, Ran, Replied, Broke}
+use Rattle.stream_task.specs.declared.task.Poll.{Poll}
+use Rattle.stream_task.specs.declared.task.Poll.TheVariants.{Ready}
+use Rattle.stream_task.specs.declared.task.Stepped.{Stepped}
+use Rattle.stream_task.specs.declared.task.Stepped.TheVariants as stepped
+
+-- ---- one poll
+
+-- A poll leaves what the request means, with the entry that it adds in front: that is what the request which is left means
+-- in the session that is left, by the entries that later polls add. Where memory was short, the request has no reply.
+abbrev pub IsAfter : Bool → (ℕ → ℕ) → Session → Meant → Advanced → List Entry → Type 0
+IsAfter shared had s meant (Waits left) rest = meant ≡ means shared had s left rest
+IsAfter shared had s meant (Ran left next) rest = meant ≡ means shared had (in_state s next) left rest
+IsAfter shared had s meant (Replied r next) rest = meant ≡ said r (in_state s next) rest
+IsAfter shared had s meant (Broke next) rest = Unit {0}
+
+-- `had` is the version at which each unit began
+abbrev pub PollMeans : Type 0
+PollMeans = (shared : Bool) (had : ℕ → ℕ) (stream : StreamNo) (seen : Seen) (s : Session) (w : Work) (added : Option Entry) (result : Advanced)
+    → IsVersioned had seen added → PollsWork shared stream seen s w added result
+    → (rest : List Entry) → IsAfter shared had s (means shared had s w (option_to_list added ++ rest)) result rest
+
+-- ---- the polls of a request
+
+-- The polls of one request, up to the one that replies, with the entries that they added. Between two polls other streams
+-- change who writes, the version and the number of the next unit.
+pub data Polled (shared : Bool) (had : ℕ → ℕ) (stream : StreamNo) : Session → Work → List Entry → Reply → Session → Type 0 where
+  waited : (s : Session) (w : Work) (seen : Seen) (added : Option Entry) (left : Work) (used : List Entry) (reply : Reply) (end : Session)
+      → IsVersioned had seen added → PollsWork shared stream seen s w added (Waits left)
+      → Polled shared had stream s left used reply end
+      → Polled shared had stream s w (option_to_list added ++ used) reply end
+  ran : (s : Session) (w : Work) (seen : Seen) (added : Option Entry) (left : Work) (next : TxnState) (used : List Entry) (reply : Reply) (end : Session)
+      → IsVersioned had seen added → PollsWork shared stream seen s w added (Ran left next)
+      → Polled shared had stream (in_state s next) left used reply end
+      → Polled shared had stream s w (option_to_list added ++ used) reply end
+  replied : (s : Session) (w : Work) (seen : Seen) (added : Option Entry) (reply : Reply) (next : TxnState)
+      → IsVersioned had seen added → PollsWork shared stream seen s w added (Replied reply next)
+      → Polled shared had stream s w (option_to_list added ++ []) reply (in_state s next)
+
+-- the reply to a request is what it means, by the entries that its polls added, in order
+abbrev pub AskMeans : Type 0
+AskMeans = (shared : Bool) (had : ℕ → ℕ) (stream : StreamNo) (s : Session) (w : Work) (used : List Entry) (reply : Reply) (end : Session)
+    → Polled shared had stream s w used reply end → means shared had s w used ≡ said reply end []
+
+-- ---- the polls of a stream
+
+abbrev pub then_replies : Meant → (Session → List Entry → List Reply) → List Reply
+then_replies (said r s rest) next = r ∷ next s rest
+then_replies meant next = []
+
+-- the replies that these requests have in turn, by the entries that their polls add, up to the first that isn't done
+abbrev pub replies : Bool → (ℕ → ℕ) → List Work → Session → List Entry → List Reply
+replies shared had [] s es = []
+replies shared had (w ∷ ws) s es = then_replies (means shared had s w es) (λ next rest. replies shared had ws next rest)
+
+abbrev pub said_by : Poll Stepped → List Reply
+said_by (Ready (stepped.Replied r)) = r ∷ []
+said_by answer = []
+
+-- A poll answers the first of the replies that the stream's requests have, and leaves the others: they are those of the
+-- requests that are left, in the session that is left, by the entries that later polls add. More requests may come behind.
+-- The requests of a poll that met want of memory have no replies.
+abbrev pub TaskMeans : Type 0
+TaskMeans = (shared : Bool) (had : ℕ → ℕ) (seen : Seen) (old : Task) (added : Option Entry) (result : Poll Stepped) (new : Task)
+    → IsVersioned had seen added → Polls shared seen old added result new → result ≢ Ready stepped.Broke
+    → (more : List Work) (rest : List Entry)
+    → replies shared had (old.asks ++ more) old.session (option_to_list added ++ rest) ≡ said_by result ++ replies shared had (new.asks ++ more) new.session rest
+
+-- A dead or closed stream stays so, and its polls add no entry.
+abbrev pub ShutAddsNothing : Type 0
+ShutAddsNothing = (shared : Bool) (seen : Seen) (old : Task) (added : Option Entry) (result : Poll Stepped) (new : Task)
+    → is_shut old.session.state ≡ true → Polls shared seen old added result new → (added ≡ None) × (is_shut new.session.state ≡ true)

@@ -1,0 +1,14 @@
+pub mod Session
+pub mod Checks
+pub mod Table
+pub mod Act
+pub mod Effect
+pub mod Moved
+pub mod Adds
+pub mod Steps
+pub mod Doing
+pub mod Means
+pub mod Advance
+pub mod Polls
+pub mod Laws
+pub mod Statement

@@ -1,0 +1,22 @@
+// The laws that join what polls do and what requests mean. Each is a function with an empty body.
+ghost use Rattle.stream_task.specs.Laws.{PollMeans, AskMeans, TaskMeans, ShutAddsNothing};
+
+/// A poll takes its entry from the front of what its request uses, and leaves the rest of what the request means.
+pub fn each_poll_leaves_the_meaning()
+    ensures { PollMeans }
+{}
+
+/// The reply to a request is what it means, by the entries that its polls added.
+pub fn each_reply_is_meant()
+    ensures { AskMeans }
+{}
+
+/// The replies of a stream stand in the order of its requests.
+pub fn replies_stand_in_order()
+    ensures { TaskMeans }
+{}
+
+/// A dead or closed stream stays so, and adds no entry.
+pub fn shut_streams_add_nothing()
+    ensures { ShutAddsNothing }
+{}

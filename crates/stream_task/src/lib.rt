@@ -1,0 +1,28 @@
+//! The stream of a client, which is one session of the database: it is asked things, and polled. Each poll runs at most
+//! one statement and adds at most one entry, of this stream.
+#![tactic(auto)]
+
+mod act;
+mod advance;
+mod checks;
+mod cutting;
+mod laws;
+mod outcomes;
+mod replies;
+mod session;
+mod statement;
+mod steps;
+mod table;
+mod task;
+mod texts;
+mod todo;
+mod turns;
+mod work;
+
+pub use laws::{
+    each_poll_leaves_the_meaning, each_reply_is_meant, replies_stand_in_order,
+    shut_streams_add_nothing,
+};
+pub use session::{Cause, TxnState};
+pub use task::{Poll, Stepped, StreamTask, Task};
+pub use texts::{StoredText, StoredTexts};
