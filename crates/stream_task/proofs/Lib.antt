@@ -12,3 +12,7 @@ pub mod MeansLemmas
 pub mod RequestLemmas
 pub mod TaskLemmas
 pub mod RowLemmas
+pub mod TurnLemmas
+pub mod OriginLemmas
+pub mod MovedLemmas
+pub mod AgreeLemmas
