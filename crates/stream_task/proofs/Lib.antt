@@ -16,3 +16,5 @@ pub mod TurnLemmas
 pub mod OriginLemmas
 pub mod MovedLemmas
 pub mod AgreeLemmas
+pub mod GoesLemmas
+pub mod TogetherLemmas

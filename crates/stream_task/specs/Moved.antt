@@ -6,7 +6,7 @@ use Rattle.txn_table.specs.declared.table.Need.{Need}
 use Rattle.txn_table.specs.declared.table.Grant.{Grant}
 use Rattle.txn_table.specs.declared.table.Grant.TheVariants as grant
 use Rattle.engine_core.specs.Engine.{is_write, IsReadOrWrite}
-use Rattle.engine_core.specs.Transactions.{Lives, View, NoWriter, NoneLive, NoOtherWriter, StartsAt, MayCommit}
+use Rattle.engine_core.specs.Transactions.{Lives, NoWriter, NoneLive, NoOtherWriter, StartsAt, MayCommit}
 use Rattle.engine_core.specs.declared.statement.BoundStmt.{BoundStmt}
 use Rattle.engine_core.specs.declared.entries.How.TheVariants as how
 use Rattle.engine_core.specs.declared.entries.Deny.TheVariants as deny
@@ -53,7 +53,7 @@ LivesByTurn shared live t = shared ≡ false → t.turn ≡ None → NoneLive li
 
 -- no two transactions live
 abbrev pub HasOne : {D : Type 0} → Lives D → Type 0
-HasOne {D} live = (a b : ℕ) (v w : View D) → live a ≡ Some v → live b ≡ Some w → a ≡ b
+HasOne live = (a b : ℕ) → IsSome (live a) → IsSome (live b) → a ≡ b
 
 -- Where the engine doesn't share and no two transactions live, it stays so, and none lives where nobody holds the turn.
 abbrev pub StaysOne : {D : Type 0} → Bool → Lives D → Lives D → Turns → Type 0
