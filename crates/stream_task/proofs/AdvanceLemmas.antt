@@ -9,14 +9,22 @@ use Rattle.engine_core.specs.Noted.{Noted}
 use Rattle.engine_core.specs.declared.statement.BoundStmt.{BoundStmt}
 use Rattle.engine_core.specs.declared.entries.Answer.{Answer}
 use Rattle.engine_core.specs.declared.entries.Entry.{Entry}
-use Rattle.stream_task.specs.Table.{Seen}
+use Rattle.stream_task.specs.Table.{Seen, state_after}
 use Rattle.stream_task.specs.Adds.{AddsOne, PollsStatement}
-use Rattle.stream_task.specs.Moved.{AgreesAs}
+use Rattle.stream_task.specs.Moved.{AgreesAs, LivesByTurn, StaysOne}
 use Rattle.stream_task.specs.Doing.{Session}
-use Rattle.stream_task.specs.Advance.{statement_of, Leaves, PollsRunning}
+use Rattle.stream_task.specs.Advance.{statement_of, StartsIn, Leaves, PollsRunning, PollsWork, Closes, Does, IsTodo, todo_of, waits_on, state_left}
+use Rattle.stream_task.specs.Session.{is_auto, is_shut}
+use Rattle.stream_task.specs.declared.session.TxnState.{TxnState}
+use Rattle.stream_task.specs.declared.session.TxnState.TheVariants.{Dead, Closed}
 use Rattle.stream_task.specs.declared.table.Went.{Went}
 use Rattle.stream_task.specs.declared.work.Running.{Running}
+use Rattle.stream_task.specs.declared.work.Work.{Work}
+use Rattle.stream_task.specs.declared.todo.Todo.{Todo}
+use Rattle.stream_task.specs.declared.todo.Todo.TheVariants as todo
 use Rattle.stream_task.specs.declared.advance.Advanced.{Advanced}
+use Rattle.stream_task.specs.declared.advance.Advanced.TheVariants.{Waits, Ran, Replied, Broke}
+use Rattle.stream_task.proofs.TodoLemmas.{Answered, StartsTodo, todo_starts, answer_rests, LeavesAs, leaves_as}
 
 -- P holds of more, and the stream waits as much
 pub adds_more : {X D : Type 0} (told : Bool) (m : Meaning D BoundStmt Answer) (db : X → D) (live : X → Lives D) (faults : X → ℕ) (stream : StreamNo) (engine engine' : X) (t t' : Turns) (old new : Noted) (w w' : Bool) (P Q : Option Entry → Type 0)
@@ -45,3 +53,56 @@ adds_none told m db live faults stream engine t old w P e h = subst (λ x. AddsO
 pub running_polls : (shared : Bool) (stream : StreamNo) (seen : Seen) (s : Session) (running : Running) (stmt : Stmt) (w : Went) (a : Advanced) → statement_of running ≡ Some stmt → Leaves running w a
     → (e : Option Entry) → PollsStatement shared stream seen s.state s.texts stmt e w → PollsRunning shared stream seen s running e a
 running_polls shared stream seen s running stmt w a f l e p = record { stmt = stmt; first = f; went = w; polls = p; leaves = l }
+
+pub agrees_left : {D : Type 0} (told : Bool) (db : D) (live : Lives D) (t : Turns) (stream : StreamNo) (running : Running) (state : TxnState) (w : Went) (a : Advanced)
+    → Leaves running w a → AgreesAs told db live t stream (state_after state w) → AgreesAs told db live t stream (state_left state a)
+agrees_left told db live t stream running state w a l h = subst (AgreesAs told db live t stream) (leaves_as running state w a l).state h
+
+-- ---- a poll that only answers
+
+shut_agrees : {D : Type 0} (told : Bool) (db : D) (live : Lives D) (t : Turns) (stream : StreamNo) (state : TxnState) → is_shut state ≡ true → AgreesAs told db live t stream state → t.turn ≢ Some stream
+shut_agrees told db live t stream (Dead why) y h = h
+shut_agrees told db live t stream Closed y h = h
+shut_agrees told db live t stream state y h = absurd (cc)
+
+pub answer_agrees : {D : Type 0} (told : Bool) (db : D) (live : Lives D) (t : Turns) (stream : StreamNo) (state : TxnState) (a : Advanced)
+    → Answered state a ⊎ (a ≡ Broke state) → AgreesAs told db live t stream state → AgreesAs told db live t stream (state_left state a)
+answer_agrees told db live t stream state (Replied r next) (inl (inl same)) h = subst (AgreesAs told db live t stream) (sym same) h
+answer_agrees told db live t stream state (Replied r next) (inl (inr shut)) h = subst (AgreesAs told db live t stream) (sym shut.1) (shut_agrees told db live t stream state shut.0 h)
+answer_agrees told db live t stream state (Waits w) (inl f) h = absurd f
+answer_agrees told db live t stream state (Ran w next) (inl f) h = absurd f
+answer_agrees told db live t stream state (Broke next) (inl f) h = absurd f
+answer_agrees told db live t stream state a (inr e) h = subst (λ x. AgreesAs told db live t stream (state_left state x)) (sym e) h
+
+pub answer_waits : (state : TxnState) (a : Advanced) → Answered state a ⊎ (a ≡ Broke state) → waits_on a ≡ false
+answer_waits state a (inl h) = answer_rests state a h
+answer_waits state a (inr e) = ap waits_on e
+
+-- ---- by what is to do
+
+pub answer_is : (s : Session) (w : Work) (t : Todo) (a : Advanced) → IsTodo s.state (todo_of s w) t → t ≡ todo.Answer a → Answered s.state a ⊎ (a ≡ Broke s.state)
+answer_is s w t a (inl e) i = inl (let same : todo_of s w ≡ todo.Answer a = sym e ∙ i in subst (StartsTodo s) same (todo_starts s w))
+answer_is s w t a (inr e) i = inr (cc)
+
+pub answer_polls : (shared : Bool) (stream : StreamNo) (seen : Seen) (s : Session) (w : Work) (t : Todo) (a : Advanced) → IsTodo s.state (todo_of s w) t → t ≡ todo.Answer a → PollsWork shared stream seen s w None a
+answer_polls shared stream seen s w t a (inl e) i = inl (subst (λ x. Does shared stream seen s x None a) (sym i ∙ e) (record { no_entry = refl; answer = refl }))
+answer_polls shared stream seen s w t a (inr e) i = inr (record { no_entry = refl; answer = cc })
+
+poll_is : (s : Session) (w : Work) (t : Todo) (running : Running) → IsTodo s.state (todo_of s w) t → t ≡ todo.Poll running → todo_of s w ≡ todo.Poll running
+poll_is s w t running (inl e) i = sym e ∙ i
+poll_is s w t running (inr e) i = absurd (cc)
+
+pub poll_starts : (s : Session) (w : Work) (t : Todo) (running : Running) → IsTodo s.state (todo_of s w) t → t ≡ todo.Poll running → StartsIn (is_auto s.state) running × (is_shut s.state ≡ false)
+poll_starts s w t running h i = subst (StartsTodo s) (poll_is s w t running h i) (todo_starts s w)
+
+pub poll_polls : (shared : Bool) (stream : StreamNo) (seen : Seen) (s : Session) (w : Work) (t : Todo) (running : Running) (a : Advanced) → IsTodo s.state (todo_of s w) t → t ≡ todo.Poll running
+    → (e : Option Entry) → PollsRunning shared stream seen s running e a → PollsWork shared stream seen s w e a
+poll_polls shared stream seen s w t running a h i e p = inl (subst (λ x. Does shared stream seen s x e a) (sym (poll_is s w t running h i)) p)
+
+close_is : (s : Session) (w : Work) (t : Todo) → IsTodo s.state (todo_of s w) t → t ≡ todo.Close → todo_of s w ≡ todo.Close
+close_is s w t (inl e) i = sym e ∙ i
+close_is s w t (inr e) i = absurd (cc)
+
+pub close_polls : (shared : Bool) (stream : StreamNo) (seen : Seen) (s : Session) (w : Work) (t : Todo) (a : Advanced) → IsTodo s.state (todo_of s w) t → t ≡ todo.Close
+    → (e : Option Entry) → Closes s.state e a → PollsWork shared stream seen s w e a
+close_polls shared stream seen s w t a h i e p = inl (subst (λ x. Does shared stream seen s x e a) (sym (close_is s w t h i)) p)

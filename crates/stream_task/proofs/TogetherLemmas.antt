@@ -17,10 +17,10 @@ use Rattle.engine_core.specs.declared.entries.How.TheVariants as how
 use Rattle.engine_core.specs.declared.entries.Undo.{Undo}
 use Rattle.engine_core.specs.declared.entries.Entry.{Entry}
 use Rattle.engine_core.specs.declared.entries.Entry.TheVariants as entry
-use Rattle.stream_task.specs.Adds.{AddsOne, seen_in}
+use Rattle.stream_task.specs.Adds.{AddsOne, seen_in, undone_of}
 use Rattle.stream_task.specs.Effect.{Effects, RanAlone}
 use Rattle.stream_task.specs.Moved.{Moved, ComesFrom, AgreesAs, WritesIn, ReadsIn, AreBelow, WritesByTurn, LivesByTurn, HasOne, StaysOne, turn_by, version_by}
-use Rattle.stream_task.specs.Polls.{Task, Polls, is_pending}
+use Rattle.stream_task.specs.Polls.{Task, Polls, Ends, is_pending}
 use Rattle.stream_task.specs.Session.{is_shut, unit_of}
 use Rattle.stream_task.specs.Table.{wrote}
 use Rattle.stream_task.specs.Together.{States, Put, numbered, AgreesAt, is_open, is_writing, unit_at, BeganBy, IsOwned, Together, TurnIsWriters, LiveAreOpen, MayPoll, HasPolled, HasEnded}
@@ -28,7 +28,7 @@ use Rattle.stream_task.specs.declared.session.TxnState.{TxnState}
 use Rattle.stream_task.specs.declared.session.TxnState.TheVariants.{Auto, Deferred, Reading, Writing, Dead, Closed}
 use Rattle.stream_task.specs.declared.task.Poll.{Poll}
 use Rattle.stream_task.specs.declared.task.Stepped.{Stepped}
-use Rattle.stream_task.proofs.TurnLemmas.{none_some, some_one, given_other}
+use Rattle.stream_task.proofs.TurnLemmas.{none_some, some_one, given_other, given_back_is}
 use Rattle.stream_task.proofs.OriginLemmas.{some_is, own_lives}
 use Rattle.stream_task.proofs.GoesLemmas.{unit_by, IsOwn, Goes, goes_polls, goes_undone}
 
@@ -507,14 +507,14 @@ did told m db live faults s engine engine' t t' old new waits P a = record { eff
 
 -- a poll of one of them
 pub polls_together : {X D : Type 0} (told shared : Bool) (m : Meaning D BoundStmt Answer) (db : X → D) (live : X → Lives D) (faults : X → ℕ) (engine engine' : X) (t t' : Turns) (old new : Noted) (task task' : Task) (result : Poll Stepped) (states states' : States) → Classes m
-    → Together told shared (db engine) (live engine) t old.next states → states task.stream.0 ≡ Some task.session.state → HasPolled told shared m db live faults engine engine' t t' old new task task' result → task'.stream ≡ task.stream → Put states states' task.stream.0 (Some task'.session.state)
+    → Together told shared (db engine) (live engine) t old.next states → states task.stream.0 ≡ Some task.session.state → HasPolled told shared m db live faults engine engine' t t' old new task task' result → Put states states' task.stream.0 (Some task'.session.state)
     → Together told shared (db engine') (live engine') t' new.next states'
-polls_together told shared m db live faults engine engine' t t' old new task task' result states states' c h at p same put =
+polls_together told shared m db live faults engine engine' t t' old new task task' result states states' c h at p put =
     together_after told shared p.adds.writes m (db engine) (live engine) old.next t (db engine') (live engine') new.next t' task.stream task.session.state (Some task'.session.state) p.adds.added states states' c h at
       (did told m db live faults task.stream engine engine' t t' old new _ _ p.adds)
       (goes_polls shared (seen_in t old.next) task p.adds.added result task' p.adds.holds)
       put
-      (subst (λ x. AgreesAs told (db engine') (live engine') t' x task'.session.state) same p.agrees)
+      (subst (λ x. AgreesAs told (db engine') (live engine') t' x task'.session.state) p.stream p.agrees)
       p.below p.writers p.one
 
 shut_off : {D : Type 0} (told : Bool) (db : D) (live : Lives D) (t : Turns) (n : ℕ) (x : Option TxnState) → is_open x ≡ false → t.turn ≢ Some (numbered n) → AgreesAt told db live t n x
@@ -560,16 +560,31 @@ lost_together told shared db live t next states s h shut off =
       one = h.one;
     }
 
+-- after the entry that ends its unit the stream doesn't hold the turn
+off_undone : {D : Type 0} (told writes : Bool) (db : D) (live : Lives D) (t between : Turns) (s : StreamNo) (why : Undo) (state : TxnState) → AgreesAs told db live t s state → between.turn ≡ turn_by s writes (undone_of why state) t.turn → between.turn ≢ Some s
+off_undone told w db live t b s why (Reading u had) a e f = given_back_is t.turn s (sym e ∙ f)
+off_undone told w db live t b s why (Writing u) a e f = given_back_is t.turn s (sym e ∙ f)
+off_undone told w db live t b s why Auto a e f = a (sym e ∙ f)
+off_undone told w db live t b s why Deferred a e f = a (sym e ∙ f)
+off_undone told w db live t b s why (Dead cause) a e f = a (sym e ∙ f)
+off_undone told w db live t b s why Closed a e f = a (sym e ∙ f)
+
 -- the end of one of them
 pub ends_together : {X D : Type 0} (told shared : Bool) (m : Meaning D BoundStmt Answer) (db : X → D) (live : X → Lives D) (faults : X → ℕ) (engine engine' : X) (t t' : Turns) (old new : Noted) (task : Task) (why : Undo) (now : Option TxnState) (states states' : States) → Classes m
     → Together told shared (db engine) (live engine) t old.next states → states task.stream.0 ≡ Some task.session.state → HasEnded told shared m db live faults engine engine' t t' old new task why → is_open now ≡ false → Put states states' task.stream.0 now
     → Together told shared (db engine') (live engine') t' new.next states'
 ends_together told shared m db live faults engine engine' t t' old new task why now states states' c h at p shut put =
     let s = task.stream in
-    let after : Together told shared (db engine') (live engine') p.between new.next states' =
-        together_after told shared p.adds.writes m (db engine) (live engine) old.next t (db engine') (live engine') new.next p.between s task.session.state now p.adds.added states states' c h at
-          (did told m db live faults s engine engine' t p.between old new _ _ p.adds)
-          (subst (λ x. Goes t.version task.session.state x now) (sym p.adds.holds) (goes_undone t.version why task.session.state now (shut_unit now shut) shut (shut_began t.version now shut)))
-          put (shut_off told (db engine') (live engine') p.between s.0 now shut p.turn) p.below p.writers p.one in
-    subst (λ x. Together told shared (db engine') (live engine') x new.next states') (sym p.lost)
-      (lost_together told shared (db engine') (live engine') p.between new.next states' s after (ap is_open put.here ∙ shut) p.turn)
+    let state = task.session.state in
+    let between = p.ends.between in
+    let a = p.ends.adds in
+    let own : AgreesAs told (db engine) (live engine) t s state = (may_poll told shared (db engine) (live engine) t old.next states s state h at).agrees in
+    let off : between.turn ≢ Some s = off_undone told a.writes (db engine) (live engine) t between s why state own (a.moved.turn ∙ ap (λ x. turn_by s a.writes x t.turn) a.holds) in
+    let same : t'.turn ≡ between.turn = ap (λ (x : Turns). x.turn) p.ends.lost ∙ given_other between.turn s off in
+    let after : Together told shared (db engine') (live engine') between new.next states' =
+        together_after told shared a.writes m (db engine) (live engine) old.next t (db engine') (live engine') new.next between s state now a.added states states' c h at
+          (did told m db live faults s engine engine' t between old new _ _ a)
+          (subst (λ x. Goes t.version state x now) (sym a.holds) (goes_undone t.version why state now (shut_unit now shut) shut (shut_began t.version now shut)))
+          put (shut_off told (db engine') (live engine') between s.0 now shut off) p.below (λ e. p.writers (same ∙ e)) (λ no one. ((p.one no one).0, λ e. (p.one no one).1 (same ∙ e))) in
+    subst (λ x. Together told shared (db engine') (live engine') x new.next states') (sym p.ends.lost)
+      (lost_together told shared (db engine') (live engine') between new.next states' s after (ap is_open put.here ∙ shut) off)

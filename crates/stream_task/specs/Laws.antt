@@ -1,8 +1,9 @@
 -- The laws that join what polls do and what requests mean.
-use Rattle.std.specs.Prelude.{◌≡◌, ◌≢◌, ℕ, Bool, List, [], ◌∷◌, ◌++◌, Option, option_to_list}
+use Rattle.std.specs.Prelude.{◌≡◌, ◌≢◌, ℕ, Bool, true, List, [], ◌∷◌, ◌++◌, Option, None, option_to_list}
 use Rattle.hrana_value.specs.declared.StreamNo.{StreamNo}
 use Rattle.stream_requests.specs.declared.replies.Reply.{Reply}
 use Rattle.engine_core.specs.declared.entries.Entry.{Entry}
+use Rattle.stream_task.specs.Session.{is_shut}
 use Rattle.stream_task.specs.Table.{Seen, IsVersioned}
 use Rattle.stream_task.specs.Doing.{Session, in_state}
 use Rattle.stream_task.specs.Means.{means, Meant, said}
@@ -78,3 +79,8 @@ TaskMeans = (shared : Bool) (had : ℕ → ℕ) (seen : Seen) (old : Task) (adde
     → IsVersioned had seen added → Polls shared seen old added result new → result ≢ Ready stepped.Broke
     → (more : List Work) (rest : List Entry)
     → replies shared had (old.asks ++ more) old.session (option_to_list added ++ rest) ≡ said_by result ++ replies shared had (new.asks ++ more) new.session rest
+
+-- A dead or closed stream stays so, and its polls add no entry.
+abbrev pub ShutAddsNothing : Type 0
+ShutAddsNothing = (shared : Bool) (seen : Seen) (old : Task) (added : Option Entry) (result : Poll Stepped) (new : Task)
+    → is_shut old.session.state ≡ true → Polls shared seen old added result new → (added ≡ None) × (is_shut new.session.state ≡ true)

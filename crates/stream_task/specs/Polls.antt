@@ -1,11 +1,18 @@
 -- One poll of a stream: the entry that it adds, what it answers, and the stream after it.
-use Rattle.std.specs.Prelude.{◌≡◌, Bool, true, false, List, [], ◌∷◌, ◌++◌, Option, None, option_to_list}
+use Rattle.std.specs.Prelude.{◌≡◌, ℕ, Bool, true, false, List, [], ◌∷◌, ◌++◌, Option, None, option_to_list}
 use Rattle.hrana_value.specs.declared.StreamNo.{StreamNo}
 use Rattle.stream_requests.specs.declared.asks.Ask.{Ask}
+use Rattle.serial_order.specs.Serial.{Meaning}
+use Rattle.txn_table.specs.Turns.{Turns, after_loss}
+use Rattle.engine_core.specs.Noted.{Noted}
+use Rattle.engine_core.specs.Transactions.{Lives}
+use Rattle.engine_core.specs.declared.statement.BoundStmt.{BoundStmt}
+use Rattle.engine_core.specs.declared.entries.Answer.{Answer}
 use Rattle.engine_core.specs.declared.entries.Entry.{Entry}
 use Rattle.engine_core.specs.declared.entries.Undo.{Undo}
 use Rattle.engine_core.specs.declared.entries.Undo.TheVariants as undo
 use Rattle.stream_task.specs.Table.{Seen}
+use Rattle.stream_task.specs.Adds.{AddsOne, undone_of}
 use Rattle.stream_task.specs.Doing.{Session, in_state, work_of}
 use Rattle.stream_task.specs.Advance.{PollsWork, state_left}
 use Rattle.stream_task.specs.declared.session.Cause.{Cause}
@@ -89,3 +96,10 @@ dead_cause why = cause.Lost
 
 abbrev pub ended : Undo → Task → Task
 ended why old = with_asks old (Dead (dead_cause why)) []
+
+-- What the end of a stream leaves: its open unit is taken back, with its entry, and then the stream gives up its place, the
+-- turn, and its place among the waiters.
+pub record Ends {X D : Type 0} (told : Bool) (m : Meaning D BoundStmt Answer) (db : X → D) (live : X → Lives D) (faults : X → ℕ) (stream : StreamNo) (engine engine' : X) (t t' : Turns) (old new : Noted) (why : Undo) (state : TxnState) : Type 0 where
+  pub between : Turns
+  pub adds : AddsOne told m db live faults stream engine engine' t between old new false (λ added. added ≡ undone_of why state)
+  pub lost : t' ≡ after_loss between stream

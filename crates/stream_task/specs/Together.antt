@@ -2,15 +2,15 @@
 use Rattle.std.specs.Prelude.{◌≡◌, ◌≢◌, ◌≤◌, ◌↔◌, ℕ, Bool, true, false, not, Option, Some, None, IsTrue, IsSome}
 use Rattle.hrana_value.specs.declared.StreamNo.{StreamNo}
 use Rattle.serial_order.specs.Serial.{Meaning}
-use Rattle.txn_table.specs.Turns.{Turns, no_turns, has, with_place, after_loss}
+use Rattle.txn_table.specs.Turns.{Turns, no_turns, has, with_place}
 use Rattle.engine_core.specs.Noted.{Noted}
 use Rattle.engine_core.specs.Transactions.{Lives, NoneLive}
 use Rattle.engine_core.specs.declared.statement.BoundStmt.{BoundStmt}
 use Rattle.engine_core.specs.declared.entries.Answer.{Answer}
 use Rattle.engine_core.specs.declared.entries.Undo.{Undo}
-use Rattle.stream_task.specs.Adds.{AddsOne, seen_in, undone_of}
+use Rattle.stream_task.specs.Adds.{AddsOne, seen_in}
 use Rattle.stream_task.specs.Moved.{AgreesAs, AreBelow, WritesByTurn, LivesByTurn, HasOne, StaysOne}
-use Rattle.stream_task.specs.Polls.{Task, Polls, is_pending}
+use Rattle.stream_task.specs.Polls.{Task, Polls, Ends, is_pending}
 use Rattle.stream_task.specs.Session.{is_shut, unit_of}
 use Rattle.stream_task.specs.declared.session.TxnState.{TxnState}
 use Rattle.stream_task.specs.declared.session.TxnState.TheVariants.{Auto, Reading, Writing}
@@ -115,6 +115,7 @@ JoinsTogether D told shared = (db : D) (live : Lives D) (t : Turns) (next : ℕ)
 pub record HasPolled {X D : Type 0} (told shared : Bool) (m : Meaning D BoundStmt Answer) (db : X → D) (live : X → Lives D) (faults : X → ℕ) (engine engine' : X) (t t' : Turns) (old new : Noted) (task task' : Task) (result : Poll Stepped) : Type 0 where
   pub adds : AddsOne told m db live faults task.stream engine engine' t t' old new (is_pending result) (λ added. Polls shared (seen_in t old.next) task added result task')
   pub agrees : AgreesAs told (db engine') (live engine') t' task'.stream task'.session.state
+  pub stream : task'.stream ≡ task.stream
   pub below : AreBelow (live engine') new.next
   pub writers : WritesByTurn (live engine') t'
   pub one : StaysOne shared (live engine) (live engine') t'
@@ -125,15 +126,12 @@ PollsTogether {X} told shared m db live faults = (engine engine' : X) (t t' : Tu
     → HasPolled told shared m db live faults engine engine' t t' old new task task' result → Put states states' task.stream.0 (Some task'.session.state)
     → Together told shared (db engine') (live engine') t' new.next states'
 
--- what the end of a stream leaves of them; the table gives back the turn and the place
+-- what the end of a stream leaves of them
 pub record HasEnded {X D : Type 0} (told shared : Bool) (m : Meaning D BoundStmt Answer) (db : X → D) (live : X → Lives D) (faults : X → ℕ) (engine engine' : X) (t t' : Turns) (old new : Noted) (task : Task) (why : Undo) : Type 0 where
-  pub between : Turns
-  pub adds : AddsOne told m db live faults task.stream engine engine' t between old new false (λ added. added ≡ undone_of why task.session.state)
-  pub lost : t' ≡ after_loss between task.stream
-  pub turn : between.turn ≢ Some task.stream
+  pub ends : Ends told m db live faults task.stream engine engine' t t' old new why task.session.state
   pub below : AreBelow (live engine') new.next
-  pub writers : WritesByTurn (live engine') between
-  pub one : StaysOne shared (live engine) (live engine') between
+  pub writers : WritesByTurn (live engine') t'
+  pub one : StaysOne shared (live engine) (live engine') t'
 
 -- the stream that ended is shut, or is let go of
 abbrev pub EndsTogether : {X D : Type 0} → Bool → Bool → Meaning D BoundStmt Answer → (X → D) → (X → Lives D) → (X → ℕ) → Type 0

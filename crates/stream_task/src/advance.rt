@@ -2,14 +2,14 @@
 ghost use Rattle.std.specs.Prelude.{◌≡◌, ◌≢◌, ◌<◌, ◌≤◌, ◌+◌, ◌-◌, ◌^◌, false, length, Some, IsSome, IsTrue};
 ghost use Rattle.txn_table.specs.Turns.{has};
 ghost use Rattle.stream_task.specs.Session.{is_auto, is_shut, open_of};
-ghost use Rattle.stream_task.specs.Moved.{AgreesAs, AreBelow, WritesByTurn, LivesByTurn};
+ghost use Rattle.stream_task.specs.Moved.{AgreesAs, AreBelow, WritesByTurn, LivesByTurn, StaysOne};
 ghost use Rattle.stream_task.specs.Adds.{AddsOne, seen_in};
 ghost use Rattle.stream_task.specs.Advance.{Leaves, outcome_leaves, steps_go_on, statement_of, StartsIn, waits_on, state_left, Does, PollsRunning, Closes, PollsWork};
 
 use crate::replies::{executed, failed, reply_of};
 use crate::session::{TxnState, is_auto};
+use crate::statement::{end_unit, poll_statement};
 use crate::steps::StepRun;
-use crate::stub::{end_unit, poll_statement};
 use crate::table::Went;
 use crate::texts::StoredTexts;
 use crate::todo::{Todo, todo_of};
@@ -112,8 +112,8 @@ fn poll_running<E: Engine>(
     requires starts { StartsIn (is_auto state) running }
     requires agrees { AgreesAs E.told (E.db engine.old) (E.live engine.old) turns.old stream state }
     requires below { AreBelow (E.live engine.old) entries.old.next }
-    requires writes { WritesByTurn (E.live engine.old) turns.old }
-    requires lives { LivesByTurn E.SHARED (E.live engine.old) turns.old }
+    requires writers { WritesByTurn (E.live engine.old) turns.old }
+    requires quiet { LivesByTurn E.SHARED (E.live engine.old) turns.old }
     requires reserved { IsTrue (has stream turns.old.reserved) }
     requires open { is_shut state ≡ false }
     requires room { 0 < entries.old.spare }
@@ -121,8 +121,8 @@ fn poll_running<E: Engine>(
     ensures adds { AddsOne E.told E.meaning E.db E.live E.faults stream engine.old engine.new turns.old turns.new entries.old entries.new (waits_on result) (λ added. PollsRunning E.SHARED stream (seen_in turns.old entries.old.next) (record { state = state; texts = texts.now }) running added result) }
     ensures agrees { AgreesAs E.told (E.db engine.new) (E.live engine.new) turns.new stream (state_left state result) }
     ensures below { AreBelow (E.live engine.new) entries.new.next }
-    ensures writes { WritesByTurn (E.live engine.new) turns.new }
-    ensures lives { LivesByTurn E.SHARED (E.live engine.new) turns.new }
+    ensures writers { WritesByTurn (E.live engine.new) turns.new }
+    ensures one { StaysOne E.SHARED (E.live engine.old) (E.live engine.new) turns.new }
     ensures spare { entries.old.spare ≤ entries.new.spare + 1 }
     ensures later { E.faults engine.old ≤ E.faults engine.new }
 {
@@ -141,14 +141,14 @@ fn close<E: Engine>(
 ) -> Advanced
     requires agrees { AgreesAs E.told (E.db engine.old) (E.live engine.old) turns.old stream state }
     requires below { AreBelow (E.live engine.old) entries.old.next }
-    requires writes { WritesByTurn (E.live engine.old) turns.old }
-    requires lives { LivesByTurn E.SHARED (E.live engine.old) turns.old }
+    requires writers { WritesByTurn (E.live engine.old) turns.old }
+    requires quiet { LivesByTurn E.SHARED (E.live engine.old) turns.old }
     requires room { 0 < entries.old.spare }
     ensures adds { AddsOne E.told E.meaning E.db E.live E.faults stream engine.old engine.new turns.old turns.new entries.old entries.new (waits_on result) (λ added. Closes state added result) }
     ensures agrees { AgreesAs E.told (E.db engine.new) (E.live engine.new) turns.new stream (state_left state result) }
     ensures below { AreBelow (E.live engine.new) entries.new.next }
-    ensures writes { WritesByTurn (E.live engine.new) turns.new }
-    ensures lives { LivesByTurn E.SHARED (E.live engine.new) turns.new }
+    ensures writers { WritesByTurn (E.live engine.new) turns.new }
+    ensures one { StaysOne E.SHARED (E.live engine.old) (E.live engine.new) turns.new }
     ensures spare { entries.old.spare ≤ entries.new.spare + 1 }
     ensures later { E.faults engine.old ≤ E.faults engine.new }
 {
@@ -169,16 +169,16 @@ pub(crate) fn advance<E: Engine>(
 ) -> Advanced
     requires agrees { AgreesAs E.told (E.db engine.old) (E.live engine.old) turns.old stream state }
     requires below { AreBelow (E.live engine.old) entries.old.next }
-    requires writes { WritesByTurn (E.live engine.old) turns.old }
-    requires lives { LivesByTurn E.SHARED (E.live engine.old) turns.old }
+    requires writers { WritesByTurn (E.live engine.old) turns.old }
+    requires quiet { LivesByTurn E.SHARED (E.live engine.old) turns.old }
     requires reserved { is_shut state ≡ false → IsTrue (has stream turns.old.reserved) }
     requires room { 0 < entries.old.spare }
     requires few { (turns.old.version < 2 ^ 64 - 1) × (entries.old.next < 2 ^ 64 - 1) }
     ensures adds { AddsOne E.told E.meaning E.db E.live E.faults stream engine.old engine.new turns.old turns.new entries.old entries.new (waits_on result) (λ added. PollsWork E.SHARED stream (seen_in turns.old entries.old.next) (record { state = state; texts = texts.now }) work added result) }
     ensures agrees { AgreesAs E.told (E.db engine.new) (E.live engine.new) turns.new stream (state_left state result) }
     ensures below { AreBelow (E.live engine.new) entries.new.next }
-    ensures writes { WritesByTurn (E.live engine.new) turns.new }
-    ensures lives { LivesByTurn E.SHARED (E.live engine.new) turns.new }
+    ensures writers { WritesByTurn (E.live engine.new) turns.new }
+    ensures one { StaysOne E.SHARED (E.live engine.old) (E.live engine.new) turns.new }
     ensures spare { entries.old.spare ≤ entries.new.spare + 1 }
     ensures later { E.faults engine.old ≤ E.faults engine.new }
 {

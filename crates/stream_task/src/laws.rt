@@ -1,5 +1,5 @@
 // The laws that join what polls do and what requests mean. Each is a function with an empty body.
-ghost use Rattle.stream_task.specs.Laws.{PollMeans, AskMeans, TaskMeans};
+ghost use Rattle.stream_task.specs.Laws.{PollMeans, AskMeans, TaskMeans, ShutAddsNothing};
 
 /// A poll takes its entry from the front of what its request uses, and leaves the rest of what the request means.
 pub fn each_poll_leaves_the_meaning()
@@ -14,4 +14,9 @@ pub fn each_reply_is_meant()
 /// The replies of a stream stand in the order of its requests.
 pub fn replies_stand_in_order()
     ensures { TaskMeans }
+{}
+
+/// A dead or closed stream stays so, and adds no entry.
+pub fn shut_streams_add_nothing()
+    ensures { ShutAddsNothing }
 {}

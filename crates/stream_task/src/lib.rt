@@ -20,8 +20,13 @@ mod together;
 mod turns;
 mod work;
 
-pub use laws::{each_poll_leaves_the_meaning, each_reply_is_meant, replies_stand_in_order};
+pub use laws::{
+    each_poll_leaves_the_meaning, each_reply_is_meant, replies_stand_in_order,
+    shut_streams_add_nothing,
+};
 pub use session::{Cause, TxnState};
-pub use task::{Poll, Stepped, StreamTask};
-pub use together::{a_stream_joins, ends_keep_agreement, polls_keep_agreement, streams_agree, streams_begin};
+pub use task::{Poll, Stepped, StreamTask, Task};
+pub use together::{
+    a_stream_joins, ends_keep_agreement, polls_keep_agreement, streams_agree, streams_begin,
+};
 pub use texts::{StoredText, StoredTexts};

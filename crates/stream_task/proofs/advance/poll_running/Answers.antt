@@ -1,7 +1,5 @@
-use Rattle.std.proofs.Common.{subst}
-use Rattle.stream_task.specs.Moved.{AgreesAs}
 use Rattle.stream_task.proofs.TodoLemmas.{LeavesAs, leaves_as}
-use Rattle.stream_task.proofs.AdvanceLemmas.{adds_more, running_polls}
+use Rattle.stream_task.proofs.AdvanceLemmas.{adds_more, running_polls, agrees_left}
 use Rattle.stream_task.proofs.advance.poll_running.Goals as goal
 
 pub returns-clause-adds : goal.returns-clause-adds
@@ -10,4 +8,4 @@ returns-clause-adds g c =
     (running_polls _ _ _ _ c.args.running _ _ _ c.statement_of-stmt.ensures c.went_leaves.ensures) c.poll_statement-went.ensures.adds
 
 pub returns-clause-agrees : goal.returns-clause-agrees
-returns-clause-agrees g c = subst (λ x. AgreesAs _ _ _ _ _ x) (leaves_as c.args.running c.args.state _ _ c.went_leaves.ensures).state c.poll_statement-went.ensures.agrees
+returns-clause-agrees g c = agrees_left _ _ _ _ _ c.args.running c.args.state _ _ c.went_leaves.ensures c.poll_statement-went.ensures.agrees
