@@ -59,8 +59,8 @@ not_true false e = absurd (cc)
 -- a statement alone that didn't write leaves the database
 alone_leaves : {D : Type 0} (told : Bool) (m : Meaning D BoundStmt Answer) (db : D) (live : Lives D) (db' : D) (live' : Lives D) (q : BoundStmt) (a : Answer) → Classes m → IsReadOrWrite q.class → IsTrue told → wrote q a ≡ false → RanAlone told m db live db' live' q a → db' ≡ db
 alone_leaves told m db live db' live' q a c f t e r = elim (and_false (is_write q.class) (not (is_refusal a)) e) [
-  | inl no ↦ r.database.database ∙ read_leaves m db q c f no
-  | inr no ↦ r.database.database ∙ m.refusal_leaves db q (ap m.is_refused (sym (r.database.answer t)) ∙ c.refusals a ∙ not_true (is_refusal a) no)
+  | inl read ↦ r.database.database ∙ read_leaves m db q c f read
+  | inr refused ↦ r.database.database ∙ m.refusal_leaves db q (ap m.is_refused (sym (r.database.answer t)) ∙ c.refusals a ∙ not_true (is_refusal a) refused)
 ]
 
 -- ---- what an entry changes
@@ -230,8 +230,8 @@ not_either t s r h (inl e) = not_own t s r h e
 not_either t s r h (inr e) = not_free t s r h e
 
 false_of : (b : Bool) → (b ≡ true → ⊥) → b ≡ false
-false_of true no = absurd (no refl)
-false_of false no = refl
+false_of true never = absurd (never refl)
+false_of false never = refl
 
 cond_kept : (b : Bool) (o p : Option StreamNo) → b ≡ false → cond b o p ≡ p
 cond_kept b o p e = ap (λ x. cond x o p) e
@@ -273,8 +273,8 @@ only_gone live live' u n b only k v e ne =
     only k v (sym (b.others k apart) ∙ e) ne
 
 only_now : {D : Type 0} (live live' : Lives D) (u n : ℕ) (now : View D) → Became live live' n (Some now) → now.is_writer ≡ false → NoOtherWriter live u → NoOtherWriter live' u
-only_now {D} live live' u n now b no only k v e ne = elim (cases_eq k n) [
-  | inl i ↦ ap (λ (x : View D). x.is_writer) (some_one (sym e ∙ ap live' i ∙ b.here)) ∙ no
+only_now {D} live live' u n now b reads only k v e ne = elim (cases_eq k n) [
+  | inl i ↦ ap (λ (x : View D). x.is_writer) (some_one (sym e ∙ ap live' i ∙ b.here)) ∙ reads
   | inr apart ↦ only k v (sym (b.others k apart) ∙ e) ne
 ]
 
@@ -491,8 +491,8 @@ together_after {D} told shared w m db live next t db' live' next' t' s state now
       ];
       below = below;
       writers = writers;
-      quiet = λ no. (one no (h.one no)).1;
-      one = λ no. (one no (h.one no)).0;
+      quiet = λ alone. (one alone (h.one alone)).1;
+      one = λ alone. (one alone (h.one alone)).0;
     }
   where
     clash : (k u : ℕ) → k ≢ s.0 → unit_at (states k) ≡ Some u → unit_at now ≡ Some u → ⊥
@@ -556,7 +556,7 @@ lost_together told shared db live t next states s h shut off =
       apart = h.apart;
       below = h.below;
       writers = λ e. h.writers (sym same ∙ e);
-      quiet = λ no e. h.quiet no (sym same ∙ e);
+      quiet = λ alone e. h.quiet alone (sym same ∙ e);
       one = h.one;
     }
 
@@ -585,6 +585,6 @@ ends_together told shared m db live faults engine engine' t t' old new task why 
         together_after told shared a.writes m (db engine) (live engine) old.next t (db engine') (live engine') new.next between s state now a.added states states' c h at
           (did told m db live faults s engine engine' t between old new _ _ a)
           (subst (λ x. Goes t.version state x now) (sym a.holds) (goes_undone t.version why state now (shut_unit now shut) shut (shut_began t.version now shut)))
-          put (shut_off told (db engine') (live engine') between s.0 now shut off) p.below (λ e. p.writers (same ∙ e)) (λ no one. ((p.one no one).0, λ e. (p.one no one).1 (same ∙ e))) in
+          put (shut_off told (db engine') (live engine') between s.0 now shut off) p.below (λ e. p.writers (same ∙ e)) (λ alone one. ((p.one alone one).0, λ e. (p.one alone one).1 (same ∙ e))) in
     subst (λ x. Together told shared (db engine') (live engine') x new.next states') (sym p.ends.lost)
       (lost_together told shared (db engine') (live engine') between new.next states' s after (ap is_open put.here ∙ shut) off)
