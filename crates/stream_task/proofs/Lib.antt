@@ -4,6 +4,7 @@
 --   sequence_of_text                          cutting/, by StepLemmas
 --   each_poll_leaves_the_meaning, each_reply_is_meant      laws/, by RequestLemmas over MeansLemmas
 --   replies_stand_in_order, shut_streams_add_nothing       laws/, by TaskLemmas
+--   the laws of together.rt                   together/, by TogetherLemmas over GoesLemmas
 --   poll_running, advance                     advance/, by AdvanceLemmas over TodoLemmas
 --   StreamTask::end: waits                    task/StreamTask/end, by EndLemmas
 --   run_row                                   statement/run_row, by RowLemmas
@@ -26,3 +27,5 @@ pub mod MovedLemmas
 pub mod AgreeLemmas
 pub mod KeepLemmas
 pub mod AddsLemmas
+pub mod GoesLemmas
+pub mod TogetherLemmas

@@ -12,3 +12,4 @@ pub mod Advance
 pub mod Polls
 pub mod Laws
 pub mod Statement
+pub mod Together

@@ -16,6 +16,7 @@ mod table;
 mod task;
 mod texts;
 mod todo;
+mod together;
 mod turns;
 mod work;
 
@@ -25,4 +26,7 @@ pub use laws::{
 };
 pub use session::{Cause, TxnState};
 pub use task::{Poll, Stepped, StreamTask, Task};
+pub use together::{
+    a_stream_joins, ends_keep_agreement, polls_keep_agreement, streams_agree, streams_begin,
+};
 pub use texts::{StoredText, StoredTexts};
