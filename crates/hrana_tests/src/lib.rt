@@ -14,8 +14,6 @@ mod keeper;
 #[cfg(test)]
 mod outside;
 #[cfg(test)]
-mod pipelines;
-#[cfg(test)]
 mod replay;
 #[cfg(test)]
 mod turns;

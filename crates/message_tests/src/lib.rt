@@ -8,6 +8,8 @@ mod batches;
 #[cfg(test)]
 mod messages;
 #[cfg(test)]
+mod pipelines;
+#[cfg(test)]
 mod requests;
 #[cfg(test)]
 mod sql_texts;
