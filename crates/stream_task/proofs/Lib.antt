@@ -4,6 +4,7 @@
 --   sequence_of_text                          cutting/, by StepLemmas
 --   each_poll_leaves_the_meaning, each_reply_is_meant      laws/, by RequestLemmas over MeansLemmas
 --   replies_stand_in_order, shut_streams_add_nothing       laws/, by TaskLemmas
+--   batches_are_meant                         laws/, by BatchLemmas
 --   poll_running, advance                     advance/, by AdvanceLemmas over TodoLemmas
 --   StreamTask::end: waits                    task/StreamTask/end, by EndLemmas
 --   run_row                                   statement/run_row, by RowLemmas
@@ -19,6 +20,7 @@ pub mod EndLemmas
 pub mod MeansLemmas
 pub mod RequestLemmas
 pub mod TaskLemmas
+pub mod BatchLemmas
 pub mod RowLemmas
 pub mod TurnLemmas
 pub mod OriginLemmas
