@@ -1,17 +1,15 @@
 -- The outcomes of a batch.
 use Prim.Native.Nat.{zero}
-use Rattle.std.proofs.Common.{◌≡◌, ◌<◌, ◌≤◌, ◌+◌, ◌↔◌, ℕ, suc, Bool, true, false, not, List, [], ◌∷◌, ◌++◌, length, drop, slice_get, Option, Some, None, Result, Ok, Err, refl, sym, ap, ◌∙◌, subst, inl, inr, if◌then◌else◌, arith, add-one, length-append, IsSomeAnd}
+use Rattle.std.proofs.Common.{◌≡◌, ◌<◌, ℕ, suc, Bool, true, false, not, List, [], ◌∷◌, ◌++◌, length, drop, slice_get, Option, Some, None, Result, Ok, Err, refl, sym, ap, ◌∙◌, subst, inl, inr, arith, add-one, length-append, IsSomeAnd}
 use Rattle.std.proofs.lemmas.Bool.{cases_Bool}
 use Rattle.hrana_stmt.specs.declared.codes.Code.{Code}
-use Rattle.hrana_stmt.specs.declared.statements.Stmt.{Stmt}
 use Rattle.hrana_batch.specs.Conditions.{holds_on}
-use Rattle.hrana_batch.specs.Means.{IsPassedOver, NextIs, Turns, no_turn, more_turns, BatchMeans}
+use Rattle.hrana_batch.specs.Means.{IsPassedOver, Turns, no_turn, more_turns, BatchMeans}
 use Rattle.hrana_batch.specs.declared.conditions.Cond.{Cond}
 use Rattle.hrana_batch.specs.declared.batches.Batch.{Batch}
 use Rattle.hrana_batch.specs.declared.batches.Step.{Step}
 use Rattle.hrana_batch.specs.declared.outcomes.Outcome.{Outcome}
-use Rattle.hrana_batch.specs.declared.outcomes.Outcome.TheVariants.{Skipped, Done, Failed}
-use Rattle.hrana_batch.specs.declared.running.Next.{Next}
+use Rattle.hrana_batch.specs.declared.outcomes.Outcome.TheVariants.{Skipped}
 use Rattle.hrana_batch.specs.declared.running.Next.TheVariants as next
 use Rattle.hrana_batch.proofs.MeansLemmas.{turns_mean}
 use Rattle.sql_text.specs.declared.class.Class.{Class}
@@ -28,7 +26,6 @@ use Rattle.stream_task.specs.Doing.{Session}
 use Rattle.stream_task.specs.Means.{Taken, short, took, broke, unfit, took_went, took_with, took_without, class_means, ready_means, statement_means, then_means, steps_mean, Meant}
 use Rattle.stream_task.specs.Laws.{OutcomesAreMeant, BatchesAreMeant}
 use Rattle.stream_task.specs.declared.session.TxnState.{TxnState}
-use Rattle.stream_task.specs.declared.session.TxnState.TheVariants.{Writing}
 use Rattle.stream_task.specs.declared.texts.StoredText.{StoredText}
 use Rattle.stream_task.specs.declared.table.Row.{Row}
 use Rattle.stream_task.specs.declared.table.Row.TheVariants as row
@@ -177,7 +174,7 @@ steps_meant shared had b [] done autos s es e t = let means = turns_mean b autos
 steps_meant shared had b (x ∷ xs) done autos s es e t = elim (cases_Bool (is_skipped x.condition done (is_auto s.state))) [
   | inl y ↦ rw y (steps_meant shared had b xs (done ++ Skipped ∷ []) (autos ++ is_auto s.state ∷ []) s es (more_left b done Skipped x xs at) (skips_turn b autos done (is_auto s.state) x xs at y t))
   | inr n ↦ rw n (then_meant b done s.texts (statement_means shared had s x.stmt es) _ (autos, turns_mean b autos done t) (runs_ready shared had x.stmt.want_rows (ready_of s.texts x.stmt) es s.state)
-    (λ o next rest run. steps_meant shared had b xs (done ++ o ∷ []) (autos ++ is_auto s.state ∷ []) next rest (more_left b done o x xs at) (runs_turn b autos done (is_auto s.state) x xs o at n run t)))
+      (λ o next rest run. steps_meant shared had b xs (done ++ o ∷ []) (autos ++ is_auto s.state ∷ []) next rest (more_left b done o x xs at) (runs_turn b autos done (is_auto s.state) x xs o at n run t)))
 ]
   where
     at : IsAt b.steps (length done) x xs
