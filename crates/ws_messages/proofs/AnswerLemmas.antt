@@ -4,39 +4,18 @@ use Rattle.std.proofs.lemmas.Bool.{cases_lt}
 use Rattle.serde_json.specs.Data.{Data, null, boolean, number, string, array, object}
 use Rattle.serde_json.specs.Find.{as_object, as_str}
 use Rattle.hrana_value.specs.declared.failures.Decline.{Decline}
-use Rattle.hrana_value.specs.declared.failures.Decline.TheVariants.{Unknown, Describe, Shape, BothSql, BadStep, Range, Float}
-use Rattle.hrana_value.specs.Declines.{rank_of, IsFirst}
 use Rattle.hrana_value.specs.Members.{HasText, TextTree}
 use Rattle.hrana_value.specs.Trees.{OptionalTree}
 use Rattle.hrana_value.proofs.TextLemmas.{one, apart}
 use Rattle.stream_requests.proofs.AskLemmas.{int32_one}
+use Rattle.stream_requests.proofs.FirstLemmas.{IsFirst-one}
+use Rattle.stream_requests.proofs.JsonTextLemmas.{json_one, not_both}
 use Rattle.ws_messages.specs.declared.messages.ClientMsg.{ClientMsg}
 use Rattle.ws_messages.specs.declared.messages.ClientMsg.TheVariants.{Hello, Request}
 use Rattle.ws_messages.specs.declared.messages.MsgFail.TheVariants.{Violation, Declined}
 use Rattle.ws_messages.specs.declared.messages.Why.{Why}
 use Rattle.ws_messages.specs.declared.messages.Why.TheVariants.{NotJson, NotObject, NoKind, UnknownKind, BadHello, BadRequestId, BadReply}
-use Rattle.ws_messages.specs.Client.{ClientTree, ClientDeclines, ClientViolates, IsJson, IsNoJson, IsClientText, IsDeclinedRequest, BreaksAsClient, NoTreeIsTwoClientMessages, is_message, breaks, is_declined, NoTextHasTwoClientAnswers}
-
--- ---- the first kind is one
-
-rank_of-one : (d e : Decline) → rank_of d ≡ rank_of e → d ≡ e
-rank_of-one Unknown Unknown h = refl
-rank_of-one Describe Describe h = refl
-rank_of-one Shape Shape h = refl
-rank_of-one BothSql BothSql h = refl
-rank_of-one BadStep BadStep h = refl
-rank_of-one Range Range h = refl
-rank_of-one Float Float h = refl
-rank_of-one d e h = absurd (omega (arith, h))
-
-pub IsFirst-one : (stands : Decline → Type 0) (d e : Decline) → IsFirst stands d → IsFirst stands e → d ≡ e
-IsFirst-one stands d e p q = elim (cases_lt (rank_of d) (rank_of e)) [
-  | inl less ↦ absurd (q.none_before d less p.stands_itself)
-  | inr more ↦ elim (cases_lt (rank_of e) (rank_of d)) [
-    | inl less ↦ absurd (p.none_before e less q.stands_itself)
-    | inr same ↦ rank_of-one d e (omega arith)
-  ]
-]
+use Rattle.ws_messages.specs.Client.{ClientTree, ClientDeclines, ClientViolates, IsClientText, IsDeclinedRequest, BreaksAsClient, NoTreeIsTwoClientMessages, is_message, breaks, is_declined, NoTextHasTwoClientAnswers}
 
 -- ---- trees
 
@@ -119,12 +98,6 @@ declined_violates t id d BadHello p q = apart _ _ _ refl p.0 q.0
 declined_violates t id d BadRequestId p q = q.1 id p.1
 
 -- ---- bytes
-
-pub json_one : (bytes : List ℕ) (t u : Data) → IsJson bytes t → IsJson bytes u → t ≡ u
-json_one bytes t u p q = one _ _ _ p.1 q.1
-
-pub not_both : (bytes : List ℕ) (t : Data) → IsNoJson bytes → IsJson bytes t → ⊥
-not_both bytes t p q = cc (sym (p q.0) ∙ q.1)
 
 message_breaks : (bytes : List ℕ) (m : ClientMsg) (w : Why) → IsClientText bytes m → BreaksAsClient bytes w → ⊥
 message_breaks bytes m w p (inl q) = not_both bytes p.0 q.1 p.1

@@ -1,10 +1,10 @@
 -- What is written for a message of a client is a form of it, and is not too deep to be read.
 use Rattle.std.proofs.Common.{◌≡◌, ℕ, ℤ, ◌≤◌, List, Some, codes, refl, subst, sym, arith}
-use Rattle.std.specs.Prelude.{pos, negsuc, FitsSigned, IsUtf8, Result, Ok, Err, IfOk, OnOk}
+use Rattle.std.specs.Prelude.{FitsSigned, IsUtf8, Result, Ok, Err, IfOk, OnOk}
 use Rattle.std.specs.Int.{w32}
 use Rattle.serde_json.specs.Data.{Data, object, depth, members_depth}
 use Rattle.serde_json.specs.Read.{read, max_depth}
-use Rattle.hrana_value.specs.Members.{HasText, HasInt32, Int32Tree, part_at, whole_of}
+use Rattle.hrana_value.specs.Members.{HasText, HasInt32, part_at}
 use Rattle.hrana_value.specs.declared.failures.NoMemory.{NoMemory}
 use Rattle.hrana_stmt.specs.declared.statements.SqlRef.TheVariants as sql
 use Rattle.hrana_stmt.proofs.Depths.{depth-stmt_data, depth-optional_text}
@@ -13,6 +13,7 @@ use Rattle.hrana_batch.proofs.Depths.{depth-batch_data}
 use Rattle.stream_requests.specs.declared.asks.Ask.{Ask}
 use Rattle.stream_requests.specs.declared.asks.Ask.TheVariants.{Execute, Batch, Sequence, Cursor, GetAutocommit, Close}
 use Rattle.stream_requests.specs.Asks.{ask_kind, AskMembers, AskFits, AskReadsBack, put_ask}
+use Rattle.stream_requests.proofs.AskWritten.{int32_back}
 use Rattle.ws_messages.specs.declared.messages.WsRequest.{WsRequest}
 use Rattle.ws_messages.specs.declared.messages.WsRequest.TheVariants.{OpenStream, OnStream, OpenCursor, CloseCursor, FetchCursor, StoreSql, CloseSql}
 use Rattle.ws_messages.specs.declared.messages.ClientMsg.{ClientMsg}
@@ -21,16 +22,9 @@ use Rattle.ws_messages.specs.declared.kinds.Kind.{Kind}
 use Rattle.ws_messages.specs.Kinds.{name_of, kind_of, IsStreamAsk}
 use Rattle.ws_messages.specs.Requests.{RequestMembers, RequestTree, RequestFits, IsFormed}
 use Rattle.ws_messages.specs.Client.{request_of, ClientTree, HasClientForm, ClientFits, IsClientText, FittingClientMessagesAreRead}
-use Rattle.ws_messages.specs.WrittenClient.{integer, on_stream, request_data, client_data, RequestReadsBack, ClientReadsBack}
+use Rattle.ws_messages.specs.WrittenClient.{on_stream, request_data, client_data, RequestReadsBack, ClientReadsBack}
 
 -- ---- forms
-
-whole-of_integer : (z : ℤ) → whole_of (integer z) ≡ Some z
-whole-of_integer (pos n) = refl
-whole-of_integer (negsuc n) = refl
-
-pub int32_back : (z : ℤ) → FitsSigned w32 z → Int32Tree z (integer z)
-int32_back z fits = record { is = whole-of_integer z; fits = fits }
 
 ask_back : (a : Ask) (stream : ℤ) (k : Kind) → IsStreamAsk (ask_kind a) → AskReadsBack a → AskMembers a (object (put_ask a (on_stream stream k)))
 ask_back (Execute stmt) stream k formed h = h

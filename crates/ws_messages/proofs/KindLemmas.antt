@@ -4,6 +4,7 @@ use Rattle.hrana_value.proofs.NameLemmas.{RowsDiffer-tested}
 use Rattle.hrana_value.proofs.TextLemmas.{apart}
 use Rattle.stream_requests.specs.declared.asks.AskKind.{AskKind}
 use Rattle.stream_requests.specs.declared.asks.AskKind.TheVariants as ask
+use Rattle.stream_requests.specs.AskNames.{ask_name}
 use Rattle.stream_requests.proofs.NameLemmas.{one_name}
 use Rattle.ws_messages.specs.declared.kinds.Kind.{Kind}
 use Rattle.ws_messages.specs.declared.kinds.Kind.TheVariants.{OpenStream, CloseStream, Execute, Batch, OpenCursor, CloseCursor, FetchCursor, Sequence, StoreSql, CloseSql, GetAutocommit}
@@ -43,10 +44,6 @@ placed k = refl
 pub name_of-one : (k l : Kind) → name_of k ≡ name_of l → k ≡ l
 name_of-one k l e = one_name name_of place_of all_names all_kinds OpenStream (RowsDiffer-tested all_names refl) within named placed k l e
 
--- a text of no row is the name of no kind
-pub none_named : (text : List ℕ) → ((i : ℕ) → i < length all_names → get_or all_names i [] ≡ text → ⊥) → (k : Kind) → name_of k ≡ text → ⊥
-none_named text none k e = none (place_of k) (within k) (named k ∙ e)
-
 pub not_describe : (k : Kind) → name_of k ≡ codes "describe" → ⊥
 not_describe OpenStream e = apart (Some (name_of OpenStream)) (name_of OpenStream) (codes "describe") refl refl (ap Some e)
 not_describe k e = apart (Some (name_of k)) (name_of k) (codes "describe") refl refl (ap Some e)
@@ -69,6 +66,20 @@ ask_of GetAutocommit = Some ask.GetAutocommit
 asked : (k : AskKind) → ask_of (kind_of k) ≡ Some k
 asked ask.Execute = refl
 asked k = refl
+
+-- a text that is neither of the two names nor that of an ask is the name of no kind
+pub none_named : (text : List ℕ) → (text ≡ codes "open_stream" → ⊥) → (text ≡ codes "close_stream" → ⊥) → ((j : AskKind) → ask_name j ≡ text → ⊥) → (k : Kind) → name_of k ≡ text → ⊥
+none_named text opens closes asks OpenStream e = opens (sym e)
+none_named text opens closes asks CloseStream e = closes (sym e)
+none_named text opens closes asks Execute e = asks ask.Execute e
+none_named text opens closes asks Batch e = asks ask.Batch e
+none_named text opens closes asks OpenCursor e = asks ask.Cursor e
+none_named text opens closes asks CloseCursor e = asks ask.CloseCursor e
+none_named text opens closes asks FetchCursor e = asks ask.Fetch e
+none_named text opens closes asks Sequence e = asks ask.Sequence e
+none_named text opens closes asks StoreSql e = asks ask.StoreSql e
+none_named text opens closes asks CloseSql e = asks ask.CloseSql e
+none_named text opens closes asks GetAutocommit e = asks ask.GetAutocommit e
 
 pub kind_of-one : (j k : AskKind) → kind_of j ≡ kind_of k → j ≡ k
 kind_of-one j k e = let same : Some j ≡ Some k = sym (asked j) ∙ ap ask_of e ∙ asked k in cc same

@@ -1,5 +1,5 @@
 -- Where the clauses are proved that the check doesn't prove by itself:
---   kind_of_name                                  kinds/kind_of_name, by KindLemmas
+--   kind_of_name, request_kinds_differ            kinds/, by KindLemmas
 --   decode_client: ok, declined                   request_json/, client/numbered_of_json, by RequestLemmas
 --   no_tree_is_two_client_messages, fitting_client_messages_are_read    client/, by ClientLemmas, RequestLemmas
 --   no_text_has_two_client_answers                client/, by AnswerLemmas

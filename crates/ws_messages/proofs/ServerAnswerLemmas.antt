@@ -6,13 +6,14 @@ use Rattle.hrana_value.specs.declared.failures.Decline.{Decline}
 use Rattle.hrana_value.specs.Members.{HasText}
 use Rattle.hrana_value.proofs.TextLemmas.{one, apart}
 use Rattle.stream_requests.proofs.AskLemmas.{int32_one}
+use Rattle.stream_requests.proofs.JsonTextLemmas.{json_one, not_both}
 use Rattle.ws_messages.specs.declared.messages.ServerMsg.{ServerMsg}
 use Rattle.ws_messages.specs.declared.messages.ServerMsg.TheVariants as server
 use Rattle.ws_messages.specs.declared.messages.MsgFail.TheVariants.{Violation, Declined}
 use Rattle.ws_messages.specs.declared.messages.Why.{Why}
 use Rattle.ws_messages.specs.declared.messages.Why.TheVariants.{NotJson, NotObject, NoKind, UnknownKind, BadHello, BadRequestId, BadReply}
 use Rattle.ws_messages.specs.Server.{ServerTree, IsNumbered, ServerDeclines, IsBadReply, IsNoServerKind, ServerViolates, IsServerText, IsDeclinedReply, BreaksAsServer, NoTreeIsTwoServerMessages, ServerMessagesAreRead, is_message, breaks, is_declined, NoTextHasTwoServerAnswers}
-use Rattle.ws_messages.proofs.AnswerLemmas.{place, place-one, no_text, json_one, not_both}
+use Rattle.ws_messages.proofs.AnswerLemmas.{place, place-one, no_text}
 
 -- ---- trees
 

@@ -11,13 +11,13 @@ use Rattle.stream_requests.specs.declared.replies.Reply.{Reply}
 use Rattle.stream_requests.specs.declared.replies.Reply.TheVariants.{StreamOpened, Execute, Batch, Sequence, Cursor, Fetched, CursorClosed, Autocommit, SqlStored, SqlClosed, Closed, Failed}
 use Rattle.stream_requests.specs.Replies.{ReplyMembers, ReplyReadsBack}
 use Rattle.stream_requests.proofs.Depths.{depth-entries_data}
+use Rattle.stream_requests.proofs.AskWritten.{int32_back}
 use Rattle.ws_messages.specs.declared.kinds.Kind.{Kind}
 use Rattle.ws_messages.specs.declared.messages.ServerMsg.{ServerMsg}
 use Rattle.ws_messages.specs.declared.messages.ServerMsg.TheVariants as server
 use Rattle.ws_messages.specs.Kinds.{name_of}
 use Rattle.ws_messages.specs.Server.{ServerTree, HasServerForm, IsServerText}
 use Rattle.ws_messages.specs.WrittenServer.{response_data, server_data, ServerReadsBack}
-use Rattle.ws_messages.proofs.ClientWritten.{int32_back}
 
 -- ---- forms
 

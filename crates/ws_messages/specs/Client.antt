@@ -1,12 +1,12 @@
 -- Which texts are messages of a client, which break the protocol, and which are declined.
-use Rattle.std.specs.Prelude.{◌≡◌, ◌⊎◌, ◌↔◌, ℕ, ℤ, List, None, Some, Result, Ok, Err, codes, IsUtf8}
+use Rattle.std.specs.Prelude.{◌≡◌, ◌⊎◌, ◌↔◌, ℕ, ℤ, List, None, Result, Ok, Err, codes}
 use Rattle.serde_json.specs.Data.{Data, null}
 use Rattle.serde_json.specs.Find.{as_object}
-use Rattle.serde_json.specs.Read.{read}
 use Rattle.hrana_value.specs.declared.failures.Decline.{Decline}
 use Rattle.hrana_value.specs.Declines.{NoneStands, IsFirst}
 use Rattle.hrana_value.specs.Members.{HasText, HasInt32, text_at, part_at, TextTree}
 use Rattle.hrana_value.specs.Trees.{OptionalTree}
+use Rattle.stream_requests.specs.JsonTexts.{IsJson, IsNoJson}
 use Rattle.ws_messages.specs.declared.messages.ClientMsg.{ClientMsg}
 use Rattle.ws_messages.specs.declared.messages.ClientMsg.TheVariants.{Hello, Request}
 use Rattle.ws_messages.specs.declared.messages.MsgFail.{MsgFail}
@@ -58,10 +58,6 @@ ClientFits (Request id request) = RequestFits request
 
 -- ---- texts
 
--- the bytes are JSON in UTF-8 with this tree
-abbrev pub IsJson : List ℕ → Data → Type 0
-IsJson bytes t = IsUtf8 bytes × (read bytes ≡ Some t)
-
 -- the bytes are a text of the message, and nothing in it is declined
 abbrev pub IsClientText : List ℕ → ClientMsg → Type 0
 IsClientText bytes m = (t : Data) × IsJson bytes t × ClientTree m t × NoneStands (ClientStands t)
@@ -69,10 +65,6 @@ IsClientText bytes m = (t : Data) × IsJson bytes t × ClientTree m t × NoneSta
 -- the bytes are a numbered message whose rest is declined
 abbrev pub IsDeclinedRequest : List ℕ → ℤ → Decline → Type 0
 IsDeclinedRequest bytes id d = (t : Data) × IsJson bytes t × ClientDeclines t id d
-
--- the bytes are no JSON
-abbrev pub IsNoJson : List ℕ → Type 0
-IsNoJson bytes = IsUtf8 bytes → read bytes ≡ None
 
 -- how the bytes break the protocol
 abbrev pub BreaksAsClient : List ℕ → Why → Type 0

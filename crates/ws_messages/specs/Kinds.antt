@@ -1,22 +1,24 @@
 -- The kinds of requests, their names, and what a request of each kind asks.
-use Rattle.std.specs.Prelude.{ℕ, List, codes}
+use Rattle.std.specs.Prelude.{◌≡◌, ℕ, List, codes}
 use Rattle.stream_requests.specs.declared.asks.AskKind.{AskKind}
 use Rattle.stream_requests.specs.declared.asks.AskKind.TheVariants as ask
+use Rattle.stream_requests.specs.AskNames.{ask_name}
 use Rattle.ws_messages.specs.declared.kinds.Kind.{Kind}
 use Rattle.ws_messages.specs.declared.kinds.Kind.TheVariants.{OpenStream, CloseStream, Execute, Batch, OpenCursor, CloseCursor, FetchCursor, Sequence, StoreSql, CloseSql, GetAutocommit}
 
+-- the names of asks, and two of its own: that a stream is closed has another over HTTP
 abbrev pub name_of : Kind → List ℕ
 name_of OpenStream = codes "open_stream"
 name_of CloseStream = codes "close_stream"
-name_of Execute = codes "execute"
-name_of Batch = codes "batch"
-name_of OpenCursor = codes "open_cursor"
-name_of CloseCursor = codes "close_cursor"
-name_of FetchCursor = codes "fetch_cursor"
-name_of Sequence = codes "sequence"
-name_of StoreSql = codes "store_sql"
-name_of CloseSql = codes "close_sql"
-name_of GetAutocommit = codes "get_autocommit"
+name_of Execute = ask_name ask.Execute
+name_of Batch = ask_name ask.Batch
+name_of OpenCursor = ask_name ask.Cursor
+name_of CloseCursor = ask_name ask.CloseCursor
+name_of FetchCursor = ask_name ask.Fetch
+name_of Sequence = ask_name ask.Sequence
+name_of StoreSql = ask_name ask.StoreSql
+name_of CloseSql = ask_name ask.CloseSql
+name_of GetAutocommit = ask_name ask.GetAutocommit
 
 -- the kind of request that asks so
 abbrev pub kind_of : AskKind → Kind
@@ -39,3 +41,7 @@ IsStreamAsk ask.Sequence = Unit {0}
 IsStreamAsk ask.GetAutocommit = Unit {0}
 IsStreamAsk ask.Close = Unit {0}
 IsStreamAsk k = ⊥
+
+-- no two kinds have one name
+abbrev pub KindsDiffer : Type 0
+KindsDiffer = (j k : Kind) → name_of j ≡ name_of k → j ≡ k

@@ -12,6 +12,7 @@ use Rattle.stream_requests.specs.declared.replies.Reply.{Reply}
 use Rattle.stream_requests.specs.declared.replies.Reply.TheVariants.{StreamOpened, Execute, Batch, Sequence, Cursor, Fetched, CursorClosed, Autocommit, SqlStored, SqlClosed, Closed, Failed}
 use Rattle.stream_requests.specs.Asks.{NothingStands}
 use Rattle.stream_requests.specs.Replies.{ReplyMembers, ReplyMembersStand}
+use Rattle.stream_requests.specs.JsonTexts.{IsJson, IsNoJson}
 use Rattle.ws_messages.specs.declared.kinds.Kind.{Kind}
 use Rattle.ws_messages.specs.declared.kinds.Kind.TheVariants as kind
 use Rattle.ws_messages.specs.declared.messages.ServerMsg.{ServerMsg}
@@ -21,7 +22,7 @@ use Rattle.ws_messages.specs.declared.messages.MsgFail.TheVariants.{Violation, D
 use Rattle.ws_messages.specs.declared.messages.Why.{Why}
 use Rattle.ws_messages.specs.declared.messages.Why.TheVariants.{NotJson, NotObject, NoKind, UnknownKind, BadRequestId, BadReply}
 use Rattle.ws_messages.specs.Kinds.{name_of}
-use Rattle.ws_messages.specs.Client.{HasNoInt32, IsJson, IsNoJson}
+use Rattle.ws_messages.specs.Client.{HasNoInt32}
 
 -- ---- responses
 

@@ -17,7 +17,7 @@ use hrana_value::{
 };
 use serde_json::Value as Json;
 use std::alloc::Global;
-use stream_requests::{fitting_asks_are_read, no_members_are_two_asks};
+use stream_requests::{fitting_asks_are_read, json_of_bytes, no_members_are_two_asks};
 
 fn hello_of_json(alloc: Global, json: &Json) -> Result<ClientMsg, MsgFail>
     requires { HasText (view json.now) (codes "type") (codes "hello") }
@@ -83,15 +83,10 @@ pub fn decode_client(alloc: Global, bytes: &[u8]) -> Result<ClientMsg, MsgFail>
     ensures violation { IfErr result (λ e. (why : Why) → e ≡ MsgFail.Violation why → BreaksAsClient bytes.now why) }
     ensures declined { IfErr result (λ e. (id : ℤ) (d : Decline) → e ≡ MsgFail.Declined id d → IsDeclinedRequest bytes.now id d) }
 {
-    match Json::from_slice(alloc, bytes) {
-        Ok(json) => client_of_json(alloc, &json),
-        Err(error) => {
-            if error.is_memory() {
-                Err(MsgFail::NoMemory)
-            } else {
-                Err(MsgFail::Violation(Why::NotJson))
-            }
-        }
+    match json_of_bytes(alloc, bytes) {
+        Ok(Some(json)) => client_of_json(alloc, &json),
+        Ok(None) => Err(MsgFail::Violation(Why::NotJson)),
+        Err(_) => Err(MsgFail::NoMemory),
     }
 }
 

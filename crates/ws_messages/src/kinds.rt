@@ -1,12 +1,11 @@
 // The kinds of requests and their names.
-ghost use Rattle.std.specs.Prelude.{◌≡◌, MatchOption, map};
-ghost use Rattle.hrana_value.specs.Names.{RowsDiffer};
-ghost use Rattle.ws_messages.specs.Kinds.{name_of};
+ghost use Rattle.std.specs.Prelude.{◌≡◌, MatchOption};
+ghost use Rattle.ws_messages.specs.Kinds.{name_of, kind_of, KindsDiffer};
 ghost use Rattle.ws_messages.specs.declared.kinds.Kind.{Kind};
 
-use hrana_value::{index_of, name};
+use stream_requests::{AskKind, ask_kind_name, ask_kind_of_name};
 
-/// The kinds of requests, in the order of the table of their names.
+/// The kinds of requests.
 #[derive(Clone, Copy, Debug, PartialEq, Eq)]
 pub enum Kind {
     OpenStream,
@@ -22,62 +21,61 @@ pub enum Kind {
     GetAutocommit,
 }
 
-/// The `type` of each kind of request, and of the response to it.
-pub const REQUEST_KINDS: [&str; 11] = [
-    "open_stream",
-    "close_stream",
-    "execute",
-    "batch",
-    "open_cursor",
-    "close_cursor",
-    "fetch_cursor",
-    "sequence",
-    "store_sql",
-    "close_sql",
-    "get_autocommit",
-];
+/// The kind of request that asks so.
+pub fn kind_of(kind: AskKind) -> Kind
+    ensures { result ≡ kind_of kind }
+{
+    match kind {
+        AskKind::Execute => Kind::Execute,
+        AskKind::Batch => Kind::Batch,
+        AskKind::Sequence => Kind::Sequence,
+        AskKind::Cursor => Kind::OpenCursor,
+        AskKind::Fetch => Kind::FetchCursor,
+        AskKind::CloseCursor => Kind::CloseCursor,
+        AskKind::GetAutocommit => Kind::GetAutocommit,
+        AskKind::StoreSql => Kind::StoreSql,
+        AskKind::CloseSql => Kind::CloseSql,
+        AskKind::Close => Kind::CloseStream,
+    }
+}
 
 /// The kind of request with this `type`.
 pub fn kind_of_name(text: &str) -> Option<Kind>
     ensures { MatchOption result ((k : Kind) → name_of k ≡ text.now → ⊥) (λ k. name_of k ≡ text.now) }
 {
-    match index_of(&REQUEST_KINDS, text) {
-        Some(0) => Some(Kind::OpenStream),
-        Some(1) => Some(Kind::CloseStream),
-        Some(2) => Some(Kind::Execute),
-        Some(3) => Some(Kind::Batch),
-        Some(4) => Some(Kind::OpenCursor),
-        Some(5) => Some(Kind::CloseCursor),
-        Some(6) => Some(Kind::FetchCursor),
-        Some(7) => Some(Kind::Sequence),
-        Some(8) => Some(Kind::StoreSql),
-        Some(9) => Some(Kind::CloseSql),
-        Some(10) => Some(Kind::GetAutocommit),
-        Some(_) => None,
+    if text == "open_stream" {
+        return Some(Kind::OpenStream);
+    }
+    if text == "close_stream" {
+        return Some(Kind::CloseStream);
+    }
+    match ask_kind_of_name(text) {
+        Some(AskKind::Close) => None,
+        Some(kind) => Some(kind_of(kind)),
         None => None,
     }
 }
 
-/// The `type` of a kind of request.
+/// The `type` of a kind of request, and of the response to it.
 pub fn kind_name(kind: Kind) -> &'static str
     ensures { result.now ≡ name_of kind }
 {
     match kind {
-        Kind::OpenStream => name(&REQUEST_KINDS, 0),
-        Kind::CloseStream => name(&REQUEST_KINDS, 1),
-        Kind::Execute => name(&REQUEST_KINDS, 2),
-        Kind::Batch => name(&REQUEST_KINDS, 3),
-        Kind::OpenCursor => name(&REQUEST_KINDS, 4),
-        Kind::CloseCursor => name(&REQUEST_KINDS, 5),
-        Kind::FetchCursor => name(&REQUEST_KINDS, 6),
-        Kind::Sequence => name(&REQUEST_KINDS, 7),
-        Kind::StoreSql => name(&REQUEST_KINDS, 8),
-        Kind::CloseSql => name(&REQUEST_KINDS, 9),
-        Kind::GetAutocommit => name(&REQUEST_KINDS, 10),
+        Kind::OpenStream => "open_stream",
+        Kind::CloseStream => "close_stream",
+        Kind::Execute => ask_kind_name(AskKind::Execute),
+        Kind::Batch => ask_kind_name(AskKind::Batch),
+        Kind::OpenCursor => ask_kind_name(AskKind::Cursor),
+        Kind::CloseCursor => ask_kind_name(AskKind::CloseCursor),
+        Kind::FetchCursor => ask_kind_name(AskKind::Fetch),
+        Kind::Sequence => ask_kind_name(AskKind::Sequence),
+        Kind::StoreSql => ask_kind_name(AskKind::StoreSql),
+        Kind::CloseSql => ask_kind_name(AskKind::CloseSql),
+        Kind::GetAutocommit => ask_kind_name(AskKind::GetAutocommit),
     }
 }
 
 /// No two kinds of request have one `type`.
 pub fn request_kinds_differ()
-    ensures { RowsDiffer (map (λ row. row.now) REQUEST_KINDS) }
+    ensures { KindsDiffer }
 {}

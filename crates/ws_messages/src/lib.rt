@@ -16,7 +16,7 @@ pub use client::{
     no_tree_is_two_client_messages,
 };
 pub use forms::reply_has_form;
-pub use kinds::{Kind, REQUEST_KINDS, kind_name, kind_of_name, request_kinds_differ};
+pub use kinds::{Kind, kind_name, kind_of, kind_of_name, request_kinds_differ};
 pub use messages::{ClientMsg, MsgFail, ServerMsg, Why, WsRequest};
 pub use server::{
     decode_server, encode_server, no_text_has_two_server_answers, no_tree_is_two_server_messages,

@@ -1,38 +1,18 @@
 // Requests as JSON text, with the members of each object in byte order.
-ghost use Rattle.std.specs.Prelude.{◌≡◌, OnOk, FitsSigned};
+ghost use Rattle.std.specs.Prelude.{OnOk, FitsSigned};
 ghost use Rattle.std.specs.Int.{w32};
 ghost use Rattle.serde_json.specs.Data.{member};
 ghost use Rattle.serde_json.specs.Events.{SendsValue, SendsMembers};
 ghost use Rattle.hrana_value.specs.Sent.{SendsFront};
 ghost use Rattle.hrana_value.specs.Whole.{IsWhole, PartsWhole};
-ghost use Rattle.stream_requests.specs.Asks.{ask_kind};
-ghost use Rattle.ws_messages.specs.Kinds.{kind_of};
 ghost use Rattle.ws_messages.specs.WrittenClient.{integer, kind_member, on_stream, request_data, RequestReadsBack};
 
-use crate::{Kind, WsRequest, kind_name};
+use crate::{Kind, WsRequest, kind_name, kind_of};
 use hrana_batch::Batch;
 use hrana_value::{JsonText, Txt, end_with_text, send_int32, send_uint64};
 use serde::Serializer;
 use std::alloc::Global;
 use stream_requests::{Ask, ask_member_count, send_ask};
-
-// The kind of request that asks a stream so.
-fn kind_of_ask(ask: &Ask) -> Kind
-    ensures { result ≡ kind_of (ask_kind ask.now) }
-{
-    match ask {
-        Ask::Execute(_) => Kind::Execute,
-        Ask::Batch(_) => Kind::Batch,
-        Ask::Sequence(_) => Kind::Sequence,
-        Ask::Cursor(_) => Kind::OpenCursor,
-        Ask::Fetch(_) => Kind::FetchCursor,
-        Ask::CloseCursor => Kind::CloseCursor,
-        Ask::GetAutocommit => Kind::GetAutocommit,
-        Ask::StoreSql { .. } => Kind::StoreSql,
-        Ask::CloseSql(_) => Kind::CloseSql,
-        Ask::Close => Kind::CloseStream,
-    }
-}
 
 /// Sends a member that is a number.
 pub fn send_id<S: Serializer>(name: &str, id: i32, out: &mut S) -> Result<(), S::Error>
@@ -81,7 +61,7 @@ fn send_on_stream<S: Serializer>(
 {
     out.begin_map(Some(ask_member_count(ask) + 2))?;
     send_ask(alloc, ask, out)?;
-    end_on_stream(stream_id, kind_of_ask(ask), out)
+    end_on_stream(stream_id, kind_of(ask.kind()), out)
 }
 
 fn send_open_cursor<S: Serializer>(

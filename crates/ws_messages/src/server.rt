@@ -17,7 +17,7 @@ use hrana_value::{
 };
 use serde_json::Value as Json;
 use std::alloc::Global;
-use stream_requests::{no_members_are_two_replies, replies_are_read};
+use stream_requests::{json_of_bytes, no_members_are_two_replies, replies_are_read};
 
 fn rest_failure(request_id: i32, fail: ReadFail) -> MsgFail
     ensures { result ≡ rest_failure request_id fail }
@@ -111,15 +111,10 @@ pub fn decode_server(alloc: Global, bytes: &[u8]) -> Result<ServerMsg, MsgFail>
     ensures violation { IfErr result (λ e. (why : Why) → e ≡ MsgFail.Violation why → BreaksAsServer bytes.now why) }
     ensures declined { IfErr result (λ e. (id : ℤ) (d : Decline) → e ≡ MsgFail.Declined id d → IsDeclinedReply bytes.now id d) }
 {
-    match Json::from_slice(alloc, bytes) {
-        Ok(json) => server_of_json(alloc, &json),
-        Err(error) => {
-            if error.is_memory() {
-                Err(MsgFail::NoMemory)
-            } else {
-                Err(MsgFail::Violation(Why::NotJson))
-            }
-        }
+    match json_of_bytes(alloc, bytes) {
+        Ok(Some(json)) => server_of_json(alloc, &json),
+        Ok(None) => Err(MsgFail::Violation(Why::NotJson)),
+        Err(_) => Err(MsgFail::NoMemory),
     }
 }
 

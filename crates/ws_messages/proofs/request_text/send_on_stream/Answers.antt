@@ -1,5 +1,5 @@
 use Rattle.std.proofs.lemmas.Result.{on_ok_weaker}
-use Rattle.std.proofs.Common.{subst}
+use Rattle.std.proofs.Common.{subst, ap, ◌∙◌}
 use Rattle.serde_json.specs.Events.{SendsMembers}
 use Rattle.hrana_value.specs.Whole.{PartsWhole}
 use Rattle.stream_requests.specs.Asks.{ask_kind}
@@ -13,10 +13,10 @@ returns-clause-sends g c =
     let w = g.S.Serializer.written in let a = c.args.ask.now in let s = c.args.stream_id in
     on_ok_weaker c.end_on_stream.result (λ e. asked_sent a s (kind_of (ask_kind a)) c.ask_member_count.result (w c.args.out.now) (w c.begin_map.new.self) (w c.send_ask.new.out) (w c.end_on_stream.new.out)
     c.ask_member_count.ensures.count c.in_ok-begin_map.ensures c.in_ok-send_ask.ensures.sends
-    (subst (λ k. SendsMembers (on_stream s k) (w c.send_ask.new.out) (w c.end_on_stream.new.out)) c.kind_of_ask.ensures (stream_sent s c.kind_of_ask.result _ _ c.ranges.stream_id e))) c.end_on_stream.ensures.sends
+    (subst (λ k. SendsMembers (on_stream s k) (w c.send_ask.new.out) (w c.end_on_stream.new.out)) (c.kind_of.ensures ∙ ap kind_of c.kind.ensures) (stream_sent s c.kind_of.result _ _ c.ranges.stream_id e))) c.end_on_stream.ensures.sends
 
 pub returns-clause-whole : goal.returns-clause-whole
 returns-clause-whole g c =
     let a = c.args.ask.now in let s = c.args.stream_id in
     on_ok_weaker c.end_on_stream.result (λ p. asked_whole a s (kind_of (ask_kind a)) c.in_ok-send_ask.ensures.whole
-    (subst (λ k. PartsWhole (on_stream s k)) c.kind_of_ask.ensures (stream_whole s c.kind_of_ask.result c.ranges.stream_id p))) c.end_on_stream.ensures.whole
+    (subst (λ k. PartsWhole (on_stream s k)) (c.kind_of.ensures ∙ ap kind_of c.kind.ensures) (stream_whole s c.kind_of.result c.ranges.stream_id p))) c.end_on_stream.ensures.whole
