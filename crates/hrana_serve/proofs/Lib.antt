@@ -8,7 +8,7 @@
 --   what an event does, and the entries that it adds    hub/Hub, HubLemmas, AddsLemmas
 --   what the checks say                                 checks/check/Answers, CheckLemmas
 --   the message of a text; no_text_is_two_messages      message/message_of_json/Answers, MessageLemmas
---   what is written                                     replies/reply_out/Answers, ReplyLemmas
+--   what is written                                     replies/RefusedJsonText/send
 --   at_most_one_entry_each, one_entry_a_request         laws, LawLemmas
 --   outs_are_determined                                 laws, RunLemmas
 pub mod AddsLemmas
@@ -21,7 +21,6 @@ pub mod MessageLemmas
 pub mod OrderLemmas
 pub mod ReadLemmas
 pub mod ReplayLemmas
-pub mod ReplyLemmas
 pub mod RunLemmas
 pub mod ScriptLemmas
 pub mod SerialLemmas

@@ -4,6 +4,7 @@ use Rattle.serde_json.specs.Data.{Data, number, string, object, member, no_membe
 use Rattle.serde_json.specs.Find.{of_integer}
 use Rattle.serde_json.specs.Written.{compact_text}
 use Rattle.hrana_stmt.specs.declared.codes.Code.{Code}
+use Rattle.hrana_stmt.specs.declared.errors.WireError.{WireError}
 use Rattle.hrana_stmt.specs.declared.results.StmtResult.{StmtResult}
 use Rattle.hrana_stmt.specs.Codes.{error_of}
 use Rattle.hrana_stmt.specs.Written.{result_data, error_data}
@@ -16,9 +17,12 @@ abbrev pub ok_data : ℤ → Data → Data
 ok_data id response = object (member (codes "request_id") (number (of_integer id)) (member (codes "response") response
     (member (codes "type") (string (codes "response_ok")) no_members)))
 
-abbrev pub failed_data : ℤ → Code → Data
-failed_data id code = object (member (codes "error") (error_data (error_of code)) (member (codes "request_id") (number (of_integer id))
+abbrev pub refused_data : ℤ → WireError → Data
+refused_data id error = object (member (codes "error") (error_data error) (member (codes "request_id") (number (of_integer id))
     (member (codes "type") (string (codes "response_error")) no_members)))
+
+abbrev pub failed_data : ℤ → Code → Data
+failed_data id code = refused_data id (error_of code)
 
 abbrev pub opened_data : Data
 opened_data = object (member (codes "type") (string (codes "open_stream")) no_members)

@@ -1,15 +1,13 @@
 // What the server writes.
 ghost use Rattle.std.specs.Prelude.{◌≡◌, IfOk, false, string_bytes};
-ghost use Rattle.serde_json.specs.View.{view};
-ghost use Rattle.serde_json.specs.Written.{has_float};
-ghost use Rattle.hrana_stmt.specs.Written.{result_data};
-ghost use Rattle.hrana_serve.specs.Written.{hello_data, ok_data, failed_data, opened_data, executed_data, message_of, print_line};
+ghost use Rattle.serde_json.specs.Data.{null};
+ghost use Rattle.hrana_serve.specs.Written.{hello_data, ok_data, refused_data, failed_data, opened_data, executed_data, message_of, print_line};
 ghost use Rattle.hrana_serve.specs.Means.{reply_data, shown};
 
 use engine_core::{Answer, Broken, Entry};
-use hrana_stmt::{Code, Rows, StmtResult, error_to_json, result_to_json, wire_error};
-use hrana_value::{NoMemory, Txt};
-use serde_json::{Map, Value as Json, json, put};
+use hrana_stmt::{Code, Rows, StmtResult, WireError, wire_error};
+use hrana_value::{JsonText, NoMemory, Txt, end_with_text, send_int32, send_text_member, text_of};
+use serde::Serializer;
 use std::alloc::Global;
 
 /// What an event gives: a message on a connection.
@@ -19,31 +17,105 @@ pub struct Out {
     pub text: Txt,
 }
 
-fn ok_to_json(alloc: Global, id: i32, response: Json) -> Result<Json, NoMemory>
-    ensures { IfOk result (λ json. view json ≡ ok_data id (view response)) }
-{
-    let mut members = Map::new(alloc);
-    put(&mut members, alloc, "request_id", Json::from(id))?;
-    put(&mut members, alloc, "response", response)?;
-    put(&mut members, alloc, "type", json!(in alloc; "response_ok")?)?;
-    Ok(Json::Object(members))
+/// The response to a statement that the engine ran.
+#[derive(Drop)]
+struct Executed<'a> {
+    given: &'a StmtResult,
 }
 
-fn failed_to_json(alloc: Global, id: i32, code: Code) -> Result<Json, NoMemory>
-    ensures { IfOk result (λ json. view json ≡ failed_data id code) }
+impl JsonText for Executed<'_> {
+    ghost form = { λ e. executed_data e.given.now };
+
+    fn send<S: Serializer>(&self, alloc: Global, out: &mut S) -> Result<(), S::Error> {
+        out.begin_map(Some(2))?;
+        out.key("result")?;
+        self.given.send(alloc, out)?;
+        end_with_text("type", "execute", out)
+    }
+}
+
+/// The response to an `open_stream`.
+#[derive(Drop)]
+struct Opened;
+
+impl JsonText for Opened {
+    ghost form = { λ _. opened_data };
+
+    fn send<S: Serializer>(&self, _alloc: Global, out: &mut S) -> Result<(), S::Error> {
+        send_text_member("type", "open_stream", out)
+    }
+}
+
+/// The answer to a `hello`.
+#[derive(Drop)]
+struct Hello;
+
+impl JsonText for Hello {
+    ghost form = { λ _. hello_data };
+
+    fn send<S: Serializer>(&self, _alloc: Global, out: &mut S) -> Result<(), S::Error> {
+        send_text_member("type", "hello_ok", out)
+    }
+}
+
+/// A request that was done.
+#[derive(Drop)]
+struct Done<'a, T: JsonText> {
+    id: i32,
+    response: &'a T,
+}
+
+impl<T: JsonText> JsonText for Done<'_, T> {
+    ghost form = { λ d. ok_data d.id (T.form d.response.now) };
+
+    fn send<S: Serializer>(&self, alloc: Global, out: &mut S) -> Result<(), S::Error> {
+        out.begin_map(Some(3))?;
+        out.key("request_id")?;
+        send_int32(self.id, out)?;
+        out.key("response")?;
+        self.response.send(alloc, out)?;
+        end_with_text("type", "response_ok", out)
+    }
+}
+
+/// A request that was refused.
+#[derive(Drop)]
+struct Refused {
+    id: i32,
+    error: WireError,
+}
+
+impl JsonText for Refused {
+    ghost form = { λ r. refused_data r.id r.error };
+
+    fn send<S: Serializer>(&self, alloc: Global, out: &mut S) -> Result<(), S::Error> {
+        out.begin_map(Some(3))?;
+        out.key("error")?;
+        self.error.send(alloc, out)?;
+        out.key("request_id")?;
+        send_int32(self.id, out)?;
+        end_with_text("type", "response_error", out)
+    }
+}
+
+/// What is said of an entry that answers no request.
+#[derive(Drop)]
+struct Nothing;
+
+impl JsonText for Nothing {
+    ghost form = { λ _. null };
+
+    fn send<S: Serializer>(&self, _alloc: Global, out: &mut S) -> Result<(), S::Error> {
+        out.unit()
+    }
+}
+
+/// A message on connection 1.
+fn message<T: JsonText>(alloc: Global, value: &T) -> Result<Out, NoMemory>
+    ensures { IfOk result (λ out. out ≡ message_of (T.form value.now)) }
 {
-    let error = wire_error(alloc, code)?;
-    let error = error_to_json(alloc, &error)?;
-    let mut members = Map::new(alloc);
-    put(&mut members, alloc, "error", error)?;
-    put(&mut members, alloc, "request_id", Json::from(id))?;
-    put(
-        &mut members,
-        alloc,
-        "type",
-        json!(in alloc; "response_error")?,
-    )?;
-    Ok(Json::Object(members))
+    let text = text_of(alloc, value)?;
+    Ok(Out { conn: 1, text })
 }
 
 fn without_rows(alloc: Global, given: &StmtResult) -> Result<StmtResult, NoMemory>
@@ -57,102 +129,74 @@ fn without_rows(alloc: Global, given: &StmtResult) -> Result<StmtResult, NoMemor
     })
 }
 
+fn executed_out(alloc: Global, id: i32, given: &StmtResult) -> Result<Out, NoMemory>
+    ensures { IfOk result (λ out. out ≡ message_of (ok_data id (executed_data given.now))) }
+{
+    let response = Executed { given };
+    message(
+        alloc,
+        &Done {
+            id,
+            response: &response,
+        },
+    )
+}
+
 /// A result, without its rows where they aren't wanted.
-fn shown_to_json(alloc: Global, want_rows: bool, given: &StmtResult) -> Result<Json, NoMemory>
-    ensures { IfOk result (λ json. view json ≡ result_data (shown want_rows given.now)) }
+fn shown_out(alloc: Global, id: i32, want_rows: bool, given: &StmtResult) -> Result<Out, NoMemory>
+    ensures { IfOk result (λ out. out ≡ message_of (ok_data id (executed_data (shown want_rows given.now)))) }
 {
     if want_rows {
-        result_to_json(alloc, given)
+        executed_out(alloc, id, given)
     } else {
         let bare = without_rows(alloc, given)?;
-        result_to_json(alloc, &bare)
+        executed_out(alloc, id, &bare)
     }
-}
-
-fn executed_to_json(alloc: Global, want_rows: bool, given: &StmtResult) -> Result<Json, NoMemory>
-    ensures { IfOk result (λ json. view json ≡ executed_data (shown want_rows given.now)) }
-{
-    let given = shown_to_json(alloc, want_rows, given)?;
-    let mut members = Map::new(alloc);
-    put(&mut members, alloc, "result", given)?;
-    put(&mut members, alloc, "type", json!(in alloc; "execute")?)?;
-    Ok(Json::Object(members))
-}
-
-/// The reply to a statement, by the entry that its poll added.
-fn reply_to_json(alloc: Global, id: i32, want_rows: bool, entry: &Entry) -> Result<Json, NoMemory>
-    ensures { IfOk result (λ json. view json ≡ reply_data id want_rows entry.now) }
-{
-    match entry {
-        Entry::Alone { answer, .. } => match answer {
-            Answer::Gave(given) => {
-                let executed = executed_to_json(alloc, want_rows, given)?;
-                ok_to_json(alloc, id, executed)
-            }
-            Answer::Refused(code) => failed_to_json(alloc, id, *code),
-        },
-        Entry::Failed { cause, .. } => match cause {
-            Broken::Fault => failed_to_json(alloc, id, Code::EngineFault),
-            Broken::NoMemory => failed_to_json(alloc, id, Code::NoMemory),
-        },
-        _ => Ok(Json::Null),
-    }
-}
-
-/// A message on connection 1.
-fn message(alloc: Global, json: &Json) -> Result<Out, NoMemory>
-    ensures { IfOk result (λ out. has_float (view json.now) ≡ false → out ≡ message_of (view json.now)) }
-{
-    let text = json.to_string(alloc)?;
-    Ok(Out {
-        conn: 1,
-        text: Txt::from_string(text),
-    })
-}
-
-/// The reply to the request of this id, by the entry that its poll added.
-pub fn reply_out(alloc: Global, id: i32, want_rows: bool, entry: &Entry) -> Result<Out, NoMemory>
-    ensures { IfOk result (λ out. out ≡ message_of (reply_data id want_rows entry.now)) }
-{
-    let json = reply_to_json(alloc, id, want_rows, entry)?;
-    message(alloc, &json)
 }
 
 /// The reply to the request of this id, which is refused with this code.
 pub fn refusal_out(alloc: Global, id: i32, code: Code) -> Result<Out, NoMemory>
     ensures { IfOk result (λ out. out ≡ message_of (failed_data id code)) }
 {
-    let json = failed_to_json(alloc, id, code)?;
-    message(alloc, &json)
+    let error = wire_error(alloc, code)?;
+    message(alloc, &Refused { id, error })
 }
 
-fn hello_to_json(alloc: Global) -> Result<Json, NoMemory>
-    ensures { IfOk result (λ json. view json ≡ hello_data) }
+/// The reply to the request of this id, by the entry that its poll added.
+pub fn reply_out(alloc: Global, id: i32, want_rows: bool, entry: &Entry) -> Result<Out, NoMemory>
+    ensures { IfOk result (λ out. out ≡ message_of (reply_data id want_rows entry.now)) }
 {
-    Ok(json!(in alloc; {"type": "hello_ok"})?)
+    match entry {
+        Entry::Alone { answer, .. } => match answer {
+            Answer::Gave(given) => shown_out(alloc, id, want_rows, given),
+            Answer::Refused(code) => refusal_out(alloc, id, *code),
+        },
+        Entry::Failed { cause, .. } => match cause {
+            Broken::Fault => refusal_out(alloc, id, Code::EngineFault),
+            Broken::NoMemory => refusal_out(alloc, id, Code::NoMemory),
+        },
+        _ => message(alloc, &Nothing),
+    }
 }
 
 /// The answer to a `hello`.
 pub fn hello_out(alloc: Global) -> Result<Out, NoMemory>
     ensures { IfOk result (λ out. out ≡ message_of hello_data) }
 {
-    let json = hello_to_json(alloc)?;
-    message(alloc, &json)
-}
-
-fn opened_to_json(alloc: Global, id: i32) -> Result<Json, NoMemory>
-    ensures { IfOk result (λ json. view json ≡ ok_data id opened_data) }
-{
-    let opened = json!(in alloc; {"type": "open_stream"})?;
-    ok_to_json(alloc, id, opened)
+    message(alloc, &Hello)
 }
 
 /// The answer to the `open_stream` of this id.
 pub fn opened_out(alloc: Global, id: i32) -> Result<Out, NoMemory>
     ensures { IfOk result (λ out. out ≡ message_of (ok_data id opened_data)) }
 {
-    let json = opened_to_json(alloc, id)?;
-    message(alloc, &json)
+    message(
+        alloc,
+        &Done {
+            id,
+            response: &Opened,
+        },
+    )
 }
 
 /// The line that an out is printed as.
