@@ -3,6 +3,8 @@
 //! after a failure.
 #![tactic(auto)]
 
+pub mod desk;
+
 #[cfg(test)]
 mod batches;
 #[cfg(test)]
@@ -23,6 +25,8 @@ mod requests;
 mod sql_texts;
 #[cfg(test)]
 mod statements;
+#[cfg(test)]
+mod streams;
 #[cfg(test)]
 mod turns;
 #[cfg(test)]
