@@ -1,5 +1,5 @@
 -- The streams of a desk stay sound.
-use Rattle.std.proofs.Common.{◌≡◌, ◌≢◌, ◌≤◌, ◌<◌, ◌+◌, ◌⊎◌, ℕ, zero, suc, Bool, List, [], ◌∷◌, ◌++◌, length, set, get_or, Option, Some, None, IsTrue, refl, sym, ap, ◌∙◌, subst, arith, inl, inr}
+use Rattle.std.proofs.Common.{◌≡◌, ◌≢◌, ◌≤◌, ◌<◌, ◌+◌, ◌⊎◌, ℕ, zero, suc, Bool, List, [], ◌∷◌, ◌++◌, length, set, get_or, Option, Some, None, Result, Ok, Err, OnOk, OnErr, IsTrue, refl, sym, ap, ◌∙◌, subst, arith, inl, inr}
 use Rattle.std.specs.Prelude.{slice_get}
 use Rattle.std.proofs.Math.Path.{fun_ext}
 use Rattle.std.proofs.lemmas.Bool.{cases_eq}
@@ -121,7 +121,7 @@ sound_open told shared db live t t' next xs s y inside h at is e place =
     record {
       numbers = numbers_push xs y h.numbers (ap (λ (x : Task). x.stream) is ∙ at);
       together = subst (λ x. Together told shared db live x next (states_of (xs ++ y ∷ []))) (sym e)
-        (joins_together told shared db live t next (states_of xs) (states_of (xs ++ y ∷ [])) s h.together (ap (states_of xs) number ∙ past_end xs) (subst (λ (x : Turns). IsTrue (has s x.reserved)) e place) put);
+          (joins_together told shared db live t next (states_of xs) (states_of (xs ++ y ∷ [])) s h.together (ap (states_of xs) number ∙ past_end xs) (subst (λ (x : Turns). IsTrue (has s x.reserved)) e place) put);
     }
 
 -- the stream at a place, as it is read there
@@ -129,7 +129,7 @@ item : (xs : List Task) (n : ℕ) (x : Task) → n < length xs → x ≡ get_or 
 item xs n x l e = slice_get_read xs (length xs) n x refl l e
 
 -- a stream whose state and number stay
-pub sound_same : {D : Type 0} (told shared : Bool) (db : D) (live : Lives D) (t : Turns) (next : ℕ) (xs : List Task) (n : ℕ) (x y : Task) → IsSound told shared db live t next xs → n < length xs → x ≡ get_or xs n x → y.stream ≡ x.stream → y.session.state ≡ x.session.state
+sound_same : {D : Type 0} (told shared : Bool) (db : D) (live : Lives D) (t : Turns) (next : ℕ) (xs : List Task) (n : ℕ) (x y : Task) → IsSound told shared db live t next xs → n < length xs → x ≡ get_or xs n x → y.stream ≡ x.stream → y.session.state ≡ x.session.state
     → IsSound told shared db live t next (set xs n y)
 sound_same told shared db live t next xs n x y h l is s z =
     let at : slice_get xs n ≡ Some x = item xs n x l is in
@@ -142,22 +142,28 @@ sound_same told shared db live t next xs n x y h l is s z =
       together = subst (Together told shared db live t next) same h.together;
     }
 
-pub asked_same : (x y : Task) (ask : Ask) → y ≡ asked x ask → (y.stream ≡ x.stream) × (y.session.state ≡ x.session.state)
+asked_same : (x y : Task) (ask : Ask) → y ≡ asked x ask → (y.stream ≡ x.stream) × (y.session.state ≡ x.session.state)
 asked_same x y ask e = (ap (λ (t : Task). t.stream) e, ap (λ (t : Task). t.session.state) e)
 
-pub sound_asked : {D : Type 0} (told shared : Bool) (db : D) (live : Lives D) (t : Turns) (next : ℕ) (xs : List Task) (n : ℕ) (x y : Task) (ask : Ask) → IsSound told shared db live t next xs → n < length xs → x ≡ get_or xs n x → y ≡ asked x ask
+sound_asked : {D : Type 0} (told shared : Bool) (db : D) (live : Lives D) (t : Turns) (next : ℕ) (xs : List Task) (n : ℕ) (x y : Task) (ask : Ask) → IsSound told shared db live t next xs → n < length xs → x ≡ get_or xs n x → y ≡ asked x ask
     → IsSound told shared db live t next (set xs n y)
 sound_asked told shared db live t next xs n x y ask h l is e = let same = asked_same x y ask e in sound_same told shared db live t next xs n x y h l is same.0 same.1
 
-pub sound_kept : {D : Type 0} (told shared : Bool) (db : D) (live : Lives D) (t : Turns) (next : ℕ) (xs : List Task) (n : ℕ) (x y : Task) → IsSound told shared db live t next xs → n < length xs → x ≡ get_or xs n x → y ≡ x
+sound_kept : {D : Type 0} (told shared : Bool) (db : D) (live : Lives D) (t : Turns) (next : ℕ) (xs : List Task) (n : ℕ) (x y : Task) → IsSound told shared db live t next xs → n < length xs → x ≡ get_or xs n x → y ≡ x
     → IsSound told shared db live t next (set xs n y)
 sound_kept told shared db live t next xs n x y h l is e = sound_same told shared db live t next xs n x y h l is (ap (λ (z : Task). z.stream) e) (ap (λ (z : Task). z.session.state) e)
+
+-- a stream that was asked one thing more, or that is as it was
+pub sound_add : {A B D : Type 0} (told shared : Bool) (db : D) (live : Lives D) (t : Turns) (next : ℕ) (xs : List Task) (n : ℕ) (x y : Task) (ask : Ask) (r : Result A B) → IsSound told shared db live t next xs → n < length xs → x ≡ get_or xs n x → OnOk r (y ≡ asked x ask) → OnErr r (y ≡ x)
+    → IsSound told shared db live t next (set xs n y)
+sound_add told shared db live t next xs n x y ask (Ok v) h l is ok err = sound_asked told shared db live t next xs n x y ask h l is ok
+sound_add told shared db live t next xs n x y ask (Err e) h l is ok err = sound_kept told shared db live t next xs n x y h l is err
 
 pub place_may : {D : Type 0} (told shared : Bool) (db : D) (live : Lives D) (t : Turns) (next next' : ℕ) (xs : List Task) (n : ℕ) (x : Task) → IsSound told shared db live t next xs → n < length xs → x ≡ get_or xs n x → next' ≡ next → MayPoll told shared db live t next' x.stream x.session.state
 place_may told shared db live t next next' xs n x h l is e =
     let at : slice_get xs n ≡ Some x = item xs n x l is in
     may_poll told shared db live t next' (states_of xs) x.stream x.session.state (subst (λ k. Together told shared db live t k (states_of xs)) (sym e) h.together)
-      (ap (λ (s : StreamNo). states_of xs s.0) (h.numbers n x at) ∙ state_at xs n x at)
+    (ap (λ (s : StreamNo). states_of xs s.0) (h.numbers n x at) ∙ state_at xs n x at)
 
 pub sound_polled : {X D : Type 0} (told shared : Bool) (m : Meaning D BoundStmt Answer) (db : X → D) (live : X → Lives D) (faults : X → ℕ) (engine engine' : X) (t t' : Turns) (old new : Noted) (next : ℕ) (xs : List Task) (n : ℕ) (x y : Task) (result : Poll Stepped) → Classes m
     → IsSound told shared (db engine) (live engine) t next xs → n < length xs → x ≡ get_or xs n x → old.next ≡ next → HasPolled told shared m db live faults engine engine' t t' old new x y result
@@ -168,9 +174,9 @@ sound_polled told shared m db live faults engine engine' t t' old new next xs n 
     record {
       numbers = numbers_set xs n y l h.numbers (p.stream ∙ h.numbers n x at);
       together = polls_together told shared m db live faults engine engine' t t' old new x y result (states_of xs) (states_of (set xs n y)) c
-        (subst (λ k. Together told shared (db engine) (live engine) t k (states_of xs)) (sym e) h.together)
-        (ap (states_of xs) number ∙ state_at xs n x at) p
-        (subst (λ k. Put (states_of xs) (states_of (set xs n y)) k (Some y.session.state)) (sym number) (put_set xs n y l));
+          (subst (λ k. Together told shared (db engine) (live engine) t k (states_of xs)) (sym e) h.together)
+          (ap (states_of xs) number ∙ state_at xs n x at) p
+          (subst (λ k. Put (states_of xs) (states_of (set xs n y)) k (Some y.session.state)) (sym number) (put_set xs n y l));
     }
 
 pub sound_ended : {X D : Type 0} (told shared : Bool) (m : Meaning D BoundStmt Answer) (db : X → D) (live : X → Lives D) (faults : X → ℕ) (engine engine' : X) (t t' : Turns) (old new : Noted) (next : ℕ) (xs : List Task) (n : ℕ) (x y : Task) (why : Undo) → Classes m
@@ -183,7 +189,7 @@ sound_ended told shared m db live faults engine engine' t t' old new next xs n x
     record {
       numbers = numbers_set xs n y l h.numbers (ap (λ (z : Task). z.stream) i ∙ h.numbers n x at);
       together = ends_together told shared m db live faults engine engine' t t' old new x why (Some (Dead (dead_cause why))) (states_of xs) (states_of (set xs n y)) c
-        (subst (λ k. Together told shared (db engine) (live engine) t k (states_of xs)) (sym e) h.together)
-        (ap (states_of xs) number ∙ state_at xs n x at) p refl
-        (subst (λ k. Put (states_of xs) (states_of (set xs n y)) k (Some (Dead (dead_cause why)))) (sym number) (subst (λ z. Put (states_of xs) (states_of (set xs n y)) n (Some z)) dead (put_set xs n y l)));
+          (subst (λ k. Together told shared (db engine) (live engine) t k (states_of xs)) (sym e) h.together)
+          (ap (states_of xs) number ∙ state_at xs n x at) p refl
+          (subst (λ k. Put (states_of xs) (states_of (set xs n y)) k (Some (Dead (dead_cause why)))) (sym number) (subst (λ z. Put (states_of xs) (states_of (set xs n y)) n (Some z)) dead (put_set xs n y l)));
     }

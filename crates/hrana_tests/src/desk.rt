@@ -22,13 +22,12 @@ pub struct Desk<E: Engine + Drop> {
 }
 
 impl<E: Engine + Drop> Model for Desk<E> {
-    ghost use Rattle.std.specs.Prelude.{List};
-    ghost use Rattle.stream_task.specs.Polls.{Task};
+    ghost use Rattle.std.specs.Prelude.{ℕ, length};
     ghost use Rattle.hrana_tests.specs.Desk.{IsSound};
 
-    ghost Value = { List Task };
+    ghost Value = { ℕ };
 
-    ghost view = { λ d. d.streams.items };
+    ghost view = { λ d. length d.streams.items };
 
     ghost invariant = { λ d. IsSound E.told E.SHARED (E.db d.engine) (E.live d.engine) d.turns d.entries.next d.streams.items };
 }

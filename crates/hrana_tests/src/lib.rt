@@ -3,12 +3,11 @@
 //! after a failure.
 #![tactic(auto)]
 
-pub mod desk;
-
 #[cfg(test)]
 mod batches;
 #[cfg(test)]
 mod batons;
+pub mod desk;
 #[cfg(test)]
 mod dialect;
 #[cfg(test)]

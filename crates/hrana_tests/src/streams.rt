@@ -182,10 +182,16 @@ fn entry_word(entry: &Entry) -> &'static str {
         Entry::Alone { wrote: true, .. } => "wrote",
         Entry::Alone { .. } => "alone",
         Entry::Began { .. } => "began",
-        Entry::Ran { answer: Answer::Gave(_), .. } => "ran",
+        Entry::Ran {
+            answer: Answer::Gave(_),
+            ..
+        } => "ran",
         Entry::Ran { .. } => "refused",
         Entry::Denied { .. } => "denied",
-        Entry::Ended { how: How::Undone(undo), .. } => undo_word(*undo),
+        Entry::Ended {
+            how: How::Undone(undo),
+            ..
+        } => undo_word(*undo),
         Entry::Ended { .. } => "committed",
         Entry::Failed { unit: Some(_), .. } => "lost-unit",
         Entry::Failed { .. } => "failed",
@@ -239,11 +245,18 @@ fn streams_take_turns(rt: HostRuntime) -> Result<(), Fail> {
         (0, Call::Close, "STREAM_NOT_OPEN", 9, 9),
     ] {
         let told = brief(alloc, act(alloc, &mut desk, stream, call)?)?;
-        let is = (told.as_str(), number_of(desk.turn()), number_of(desk.next_waiter()));
+        let is = (
+            told.as_str(),
+            number_of(desk.turn()),
+            number_of(desk.next_waiter()),
+        );
         assert_eq!(rt; is, (wanted, holder, waiter));
     }
     let entries = words(alloc, desk.into_entries().as_slice())?;
-    assert_eq!(rt; entries.as_str(), "wrote began ran committed began ran expired wrote began ran closed ");
+    assert_eq!(rt;
+        entries.as_str(),
+        "wrote began ran committed began ran expired wrote began ran closed "
+    );
     Ok(())
 }
 
@@ -252,11 +265,31 @@ fn streams_take_turns(rt: HostRuntime) -> Result<(), Fail> {
 fn each_call_of_the_engine_fails_once(rt: HostRuntime) -> Result<(), Fail> {
     let alloc = rt.alloc();
     for (at, wanted, noted) in [
-        (1, ["ENGINE_FAULT", "done", "NO_TABLE", "done"], "failed began refused committed "),
-        (2, ["done", "ENGINE_FAULT", "done", "NO_TXN"], "wrote failed wrote "),
-        (3, ["done", "done", "ENGINE_FAULT", "STREAM_LOST"], "wrote began lost-unit "),
-        (4, ["done", "done", "done", "ENGINE_FAULT"], "wrote began ran lost-unit "),
-        (5, ["done", "done", "done", "done"], "wrote began ran committed "),
+        (
+            1,
+            ["ENGINE_FAULT", "done", "NO_TABLE", "done"],
+            "failed began refused committed ",
+        ),
+        (
+            2,
+            ["done", "ENGINE_FAULT", "done", "NO_TXN"],
+            "wrote failed wrote ",
+        ),
+        (
+            3,
+            ["done", "done", "ENGINE_FAULT", "STREAM_LOST"],
+            "wrote began lost-unit ",
+        ),
+        (
+            4,
+            ["done", "done", "done", "ENGINE_FAULT"],
+            "wrote began ran lost-unit ",
+        ),
+        (
+            5,
+            ["done", "done", "done", "done"],
+            "wrote began ran committed ",
+        ),
     ] {
         let mut desk = three(alloc, &[at])?;
         let is = [
@@ -304,39 +337,56 @@ fn statements_are_checked_in_order(rt: HostRuntime) -> Result<(), Fail> {
     Ok(())
 }
 
-const EMPTY: &str = r#"{"request_id":1,"response":{"result":{"affected_row_count":0,"cols":[],"last_insert_rowid":null,"rows":[]},"type":"execute"},"type":"response_ok"}"#;
+const EMPTY: &str =
+    r#"{"request_id":1,"response":{"result":{"affected_row_count":0,"cols":[],"last_insert_rowid":null,"rows":[]},"type":"execute"},"type":"response_ok"}"#;
 
-const ONE_ROW: &str = r#"{"request_id":1,"response":{"result":{"affected_row_count":1,"cols":[],"last_insert_rowid":"1","rows":[]},"type":"execute"},"type":"response_ok"}"#;
+const ONE_ROW: &str =
+    r#"{"request_id":1,"response":{"result":{"affected_row_count":1,"cols":[],"last_insert_rowid":"1","rows":[]},"type":"execute"},"type":"response_ok"}"#;
 
-const COUNTED: &str = r#"{"request_id":1,"response":{"result":{"affected_row_count":0,"cols":[{"name":"COUNT(*)"}],"last_insert_rowid":null,"rows":[[{"type":"integer","value":"1"}]]},"type":"execute"},"type":"response_ok"}"#;
+const COUNTED: &str =
+    r#"{"request_id":1,"response":{"result":{"affected_row_count":0,"cols":[{"name":"COUNT(*)"}],"last_insert_rowid":null,"rows":[[{"type":"integer","value":"1"}]]},"type":"execute"},"type":"response_ok"}"#;
 
-const NO_TXN: &str = r#"{"error":{"code":"NO_TXN","message":"no transaction is open"},"request_id":1,"type":"response_error"}"#;
+const NO_TXN: &str =
+    r#"{"error":{"code":"NO_TXN","message":"no transaction is open"},"request_id":1,"type":"response_error"}"#;
 
-const TXN_OPEN: &str = r#"{"error":{"code":"TXN_OPEN","message":"a transaction is open"},"request_id":1,"type":"response_error"}"#;
+const TXN_OPEN: &str =
+    r#"{"error":{"code":"TXN_OPEN","message":"a transaction is open"},"request_id":1,"type":"response_error"}"#;
 
-const SYNTAX: &str = r#"{"error":{"code":"SYNTAX","message":"statement is not understood"},"request_id":1,"type":"response_error"}"#;
+const SYNTAX: &str =
+    r#"{"error":{"code":"SYNTAX","message":"statement is not understood"},"request_id":1,"type":"response_error"}"#;
 
-const ENGINE_FAULT: &str = r#"{"error":{"code":"ENGINE_FAULT","message":"engine failed"},"request_id":1,"type":"response_error"}"#;
+const ENGINE_FAULT: &str =
+    r#"{"error":{"code":"ENGINE_FAULT","message":"engine failed"},"request_id":1,"type":"response_error"}"#;
 
-const STREAM_LOST: &str = r#"{"error":{"code":"STREAM_LOST","message":"stream was lost"},"request_id":1,"type":"response_error"}"#;
+const STREAM_LOST: &str =
+    r#"{"error":{"code":"STREAM_LOST","message":"stream was lost"},"request_id":1,"type":"response_error"}"#;
 
 const CLOSED: &str = r#"{"request_id":1,"response":{"type":"close_stream"},"type":"response_ok"}"#;
 
-const ROLLS_BACK: &str = r#"{"steps":[{"stmt":{"sql":"BEGIN"}},{"condition":{"type":"ok","step":0},"stmt":{"sql":"INSERT INTO t VALUES (1, 'x')"}},{"condition":{"type":"ok","step":1},"stmt":{"sql":"COMMIT"}},{"condition":{"type":"not","cond":{"type":"ok","step":2}},"stmt":{"sql":"ROLLBACK"}}]}"#;
+const ROLLS_BACK: &str =
+    r#"{"steps":[{"stmt":{"sql":"BEGIN"}},{"condition":{"type":"ok","step":0},"stmt":{"sql":"INSERT INTO t VALUES (1, 'x')"}},{"condition":{"type":"ok","step":1},"stmt":{"sql":"COMMIT"}},{"condition":{"type":"not","cond":{"type":"ok","step":2}},"stmt":{"sql":"ROLLBACK"}}]}"#;
 
-const ROLLED_BACK: &str = r#"{"request_id":1,"response":{"result":{"step_errors":[null,{"code":"CONSTRAINT","message":"primary key constraint failed"},null,null],"step_results":[{"affected_row_count":0,"cols":[],"last_insert_rowid":null,"rows":[]},null,null,{"affected_row_count":0,"cols":[],"last_insert_rowid":null,"rows":[]}]},"type":"batch"},"type":"response_ok"}"#;
+const ROLLED_BACK: &str =
+    r#"{"request_id":1,"response":{"result":{"step_errors":[null,{"code":"CONSTRAINT","message":"primary key constraint failed"},null,null],"step_results":[{"affected_row_count":0,"cols":[],"last_insert_rowid":null,"rows":[]},null,null,{"affected_row_count":0,"cols":[],"last_insert_rowid":null,"rows":[]}]},"type":"batch"},"type":"response_ok"}"#;
 
-const CONDITIONS: &str = r#"{"steps":[{"condition":{"type":"is_autocommit"},"stmt":{"sql":"SELECT 1"}},{"stmt":{"sql":"BEGIN"}},{"condition":{"type":"is_autocommit"},"stmt":{"sql":"SELECT 2"}},{"condition":{"type":"and","conds":[]},"stmt":{"sql":"SELECT 3"}},{"condition":{"type":"or","conds":[]},"stmt":{"sql":"SELECT 4"}},{"stmt":{"sql":"COMMIT"}}]}"#;
+const CONDITIONS: &str =
+    r#"{"steps":[{"condition":{"type":"is_autocommit"},"stmt":{"sql":"SELECT 1"}},{"stmt":{"sql":"BEGIN"}},{"condition":{"type":"is_autocommit"},"stmt":{"sql":"SELECT 2"}},{"condition":{"type":"and","conds":[]},"stmt":{"sql":"SELECT 3"}},{"condition":{"type":"or","conds":[]},"stmt":{"sql":"SELECT 4"}},{"stmt":{"sql":"COMMIT"}}]}"#;
 
-const CONDITIONS_MET: &str = r#"{"request_id":1,"response":{"result":{"step_errors":[null,null,null,null,null,null],"step_results":[{"affected_row_count":0,"cols":[{"name":"1"}],"last_insert_rowid":null,"rows":[[{"type":"integer","value":"1"}]]},{"affected_row_count":0,"cols":[],"last_insert_rowid":null,"rows":[]},null,{"affected_row_count":0,"cols":[{"name":"3"}],"last_insert_rowid":null,"rows":[[{"type":"integer","value":"3"}]]},null,{"affected_row_count":0,"cols":[],"last_insert_rowid":null,"rows":[]}]},"type":"batch"},"type":"response_ok"}"#;
+const CONDITIONS_MET: &str =
+    r#"{"request_id":1,"response":{"result":{"step_errors":[null,null,null,null,null,null],"step_results":[{"affected_row_count":0,"cols":[{"name":"1"}],"last_insert_rowid":null,"rows":[[{"type":"integer","value":"1"}]]},{"affected_row_count":0,"cols":[],"last_insert_rowid":null,"rows":[]},null,{"affected_row_count":0,"cols":[{"name":"3"}],"last_insert_rowid":null,"rows":[[{"type":"integer","value":"3"}]]},null,{"affected_row_count":0,"cols":[],"last_insert_rowid":null,"rows":[]}]},"type":"batch"},"type":"response_ok"}"#;
 
-const CONDITIONAL: &str = r#"{"steps":[{"stmt":{"sql":"BEGIN IMMEDIATE","args":[],"named_args":[],"want_rows":false}},{"condition":{"type":"ok","step":0},"stmt":{"sql":"INSERT INTO t VALUES (:a, :b)","named_args":[{"name":"a","value":{"type":"integer","value":"1"}},{"name":":b","value":{"type":"text","value":"x"}}]}},{"condition":{"type":"ok","step":1},"stmt":{"sql":"COMMIT"}},{"condition":{"type":"not","cond":{"type":"ok","step":2}},"stmt":{"sql":"ROLLBACK"}}]}"#;
+const CONDITIONAL: &str =
+    r#"{"steps":[{"stmt":{"sql":"BEGIN IMMEDIATE","args":[],"named_args":[],"want_rows":false}},{"condition":{"type":"ok","step":0},"stmt":{"sql":"INSERT INTO t VALUES (:a, :b)","named_args":[{"name":"a","value":{"type":"integer","value":"1"}},{"name":":b","value":{"type":"text","value":"x"}}]}},{"condition":{"type":"ok","step":1},"stmt":{"sql":"COMMIT"}},{"condition":{"type":"not","cond":{"type":"ok","step":2}},"stmt":{"sql":"ROLLBACK"}}]}"#;
 
-const OUTSIDE_AUTOCOMMIT: &str = r#"{"steps":[{"stmt":{"sql":"BEGIN IMMEDIATE","args":[],"named_args":[],"want_rows":false}},{"condition":{"type":"not","cond":{"type":"is_autocommit"}},"stmt":{"sql":"INSERT INTO t VALUES (:a, :b)","named_args":[{"name":"a","value":{"type":"integer","value":"1"}},{"name":":b","value":{"type":"text","value":"x"}}]}},{"condition":{"type":"not","cond":{"type":"is_autocommit"}},"stmt":{"sql":"COMMIT"}},{"condition":{"type":"not","cond":{"type":"ok","step":2}},"stmt":{"sql":"ROLLBACK"}}]}"#;
+const OUTSIDE_AUTOCOMMIT: &str =
+    r#"{"steps":[{"stmt":{"sql":"BEGIN IMMEDIATE","args":[],"named_args":[],"want_rows":false}},{"condition":{"type":"not","cond":{"type":"is_autocommit"}},"stmt":{"sql":"INSERT INTO t VALUES (:a, :b)","named_args":[{"name":"a","value":{"type":"integer","value":"1"}},{"name":":b","value":{"type":"text","value":"x"}}]}},{"condition":{"type":"not","cond":{"type":"is_autocommit"}},"stmt":{"sql":"COMMIT"}},{"condition":{"type":"not","cond":{"type":"ok","step":2}},"stmt":{"sql":"ROLLBACK"}}]}"#;
 
-const CONDITIONS_HELD: &str = r#"{"request_id":1,"response":{"result":{"step_errors":[null,null,null,null],"step_results":[{"affected_row_count":0,"cols":[],"last_insert_rowid":null,"rows":[]},{"affected_row_count":1,"cols":[],"last_insert_rowid":"1","rows":[]},{"affected_row_count":0,"cols":[],"last_insert_rowid":null,"rows":[]},null]},"type":"batch"},"type":"response_ok"}"#;
+const CONDITIONS_HELD: &str =
+    r#"{"request_id":1,"response":{"result":{"step_errors":[null,null,null,null],"step_results":[{"affected_row_count":0,"cols":[],"last_insert_rowid":null,"rows":[]},{"affected_row_count":1,"cols":[],"last_insert_rowid":"1","rows":[]},{"affected_row_count":0,"cols":[],"last_insert_rowid":null,"rows":[]},null]},"type":"batch"},"type":"response_ok"}"#;
 
-const TWO_AND_BAD: Call = Call::Sequence("INSERT INTO t VALUES (1, 'a;b'); BAD; INSERT INTO t VALUES (2, 'c')");
+const TWO_AND_BAD: Call = Call::Sequence(
+    "INSERT INTO t VALUES (1, 'a;b'); BAD; INSERT INTO t VALUES (2, 'c')",
+);
 
 // Each line has what is done to a stream that made a table, which call of the engine fails, and what came of each poll.
 #[test]
@@ -345,7 +395,12 @@ fn replies_are_as_written(rt: HostRuntime) -> Result<(), Fail> {
     let cases: [(u64, &[(Call, &str)], &str); 8] = [
         (
             9,
-            &[(COMMIT, NO_TXN), (BEGIN, EMPTY), (BEGIN, TXN_OPEN), (COMMIT, EMPTY)],
+            &[
+                (COMMIT, NO_TXN),
+                (BEGIN, EMPTY),
+                (BEGIN, TXN_OPEN),
+                (COMMIT, EMPTY),
+            ],
             "wrote ",
         ),
         (
@@ -405,7 +460,11 @@ fn replies_are_as_written(rt: HostRuntime) -> Result<(), Fail> {
         ),
         (
             9,
-            &[(IMMEDIATE, EMPTY), (ADD_ONE, ONE_ROW), (Call::Close, CLOSED)],
+            &[
+                (IMMEDIATE, EMPTY),
+                (ADD_ONE, ONE_ROW),
+                (Call::Close, CLOSED),
+            ],
             "wrote began ran closed ",
         ),
     ];

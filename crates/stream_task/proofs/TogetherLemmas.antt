@@ -468,13 +468,13 @@ together_after {D} told shared w m db live next t db' live' next' t' s state now
     let grows : t.version ≤ t'.version = subst (λ v. t.version ≤ v) (sym d.version) (version_grows added t.version) in
     record {
       agree = put_each (λ k x. AgreesAt told db' live' t' k x) states states' s.0 now put own
-        (λ k ne. agrees_other told w m db live next t db' live' t' s (unit_of state) k (states k) added c d (apart_numbers s k ne) g.own (λ u e. other_own states s state k u at h.apart ne e) (h.began k) (h.agree k));
+          (λ k ne. agrees_other told w m db live next t db' live' t' s (unit_of state) k (states k) added c d (apart_numbers s k ne) g.own (λ u e. other_own states s state k u at h.apart ne e) (h.began k) (h.agree k));
       places = put_each (λ k x. is_open x ≡ true → IsTrue (has (numbered k) t'.reserved)) states states' s.0 now put
-        (λ e. subst (λ r. IsTrue (has s r)) (sym d.reserved) (h.places s.0 (ap is_open at ∙ g.opened e)))
-        (λ k ne e. subst (λ r. IsTrue (has (numbered k) r)) (sym d.reserved) (h.places k e));
+          (λ e. subst (λ r. IsTrue (has s r)) (sym d.reserved) (h.places s.0 (ap is_open at ∙ g.opened e)))
+          (λ k ne e. subst (λ r. IsTrue (has (numbered k) r)) (sym d.reserved) (h.places k e));
       began = put_each (λ k x. BeganBy t'.version x) states states' s.0 now put
-        (began_up t.version t'.version now grows (g.began (subst (λ x. BeganBy t.version x) at (h.began s.0))))
-        (λ k ne. began_up t.version t'.version (states k) grows (h.began k));
+          (began_up t.version t'.version now grows (g.began (subst (λ x. BeganBy t.version x) at (h.began s.0))))
+          (λ k ne. began_up t.version t'.version (states k) grows (h.began k));
       owned = λ u some. elim (lives_after told w m db live next t db' live' t' s (unit_of state) u added d g.own some) [
         | inl e ↦ record { stream = s.0; opened = ap unit_at put.here ∙ g.unit ∙ e }
         | inr old ↦ (let o : IsOwned states u = h.owned u old.1 in record { stream = o.stream; opened = ap unit_at (put.others o.stream (λ e. old.0 (sym (ap unit_at (ap states e ∙ at)) ∙ o.opened))) ∙ o.opened })
@@ -511,11 +511,11 @@ pub polls_together : {X D : Type 0} (told shared : Bool) (m : Meaning D BoundStm
     → Together told shared (db engine') (live engine') t' new.next states'
 polls_together told shared m db live faults engine engine' t t' old new task task' result states states' c h at p put =
     together_after told shared p.adds.writes m (db engine) (live engine) old.next t (db engine') (live engine') new.next t' task.stream task.session.state (Some task'.session.state) p.adds.added states states' c h at
-      (did told m db live faults task.stream engine engine' t t' old new _ _ p.adds)
-      (goes_polls shared (seen_in t old.next) task p.adds.added result task' p.adds.holds)
-      put
-      (subst (λ x. AgreesAs told (db engine') (live engine') t' x task'.session.state) p.stream p.agrees)
-      p.below p.writers p.one
+    (did told m db live faults task.stream engine engine' t t' old new _ _ p.adds)
+    (goes_polls shared (seen_in t old.next) task p.adds.added result task' p.adds.holds)
+    put
+    (subst (λ x. AgreesAs told (db engine') (live engine') t' x task'.session.state) p.stream p.agrees)
+    p.below p.writers p.one
 
 shut_off : {D : Type 0} (told : Bool) (db : D) (live : Lives D) (t : Turns) (n : ℕ) (x : Option TxnState) → is_open x ≡ false → t.turn ≢ Some (numbered n) → AgreesAt told db live t n x
 shut_off told db live t n None e a = a
@@ -582,9 +582,9 @@ ends_together told shared m db live faults engine engine' t t' old new task why 
     let off : between.turn ≢ Some s = off_undone told a.writes (db engine) (live engine) t between s why state own (a.moved.turn ∙ ap (λ x. turn_by s a.writes x t.turn) a.holds) in
     let same : t'.turn ≡ between.turn = ap (λ (x : Turns). x.turn) p.ends.lost ∙ given_other between.turn s off in
     let after : Together told shared (db engine') (live engine') between new.next states' =
-        together_after told shared a.writes m (db engine) (live engine) old.next t (db engine') (live engine') new.next between s state now a.added states states' c h at
-          (did told m db live faults s engine engine' t between old new _ _ a)
-          (subst (λ x. Goes t.version state x now) (sym a.holds) (goes_undone t.version why state now (shut_unit now shut) shut (shut_began t.version now shut)))
-          put (shut_off told (db engine') (live engine') between s.0 now shut off) p.below (λ e. p.writers (same ∙ e)) (λ alone one. ((p.one alone one).0, λ e. (p.one alone one).1 (same ∙ e))) in
+    together_after told shared a.writes m (db engine) (live engine) old.next t (db engine') (live engine') new.next between s state now a.added states states' c h at
+    (did told m db live faults s engine engine' t between old new _ _ a)
+    (subst (λ x. Goes t.version state x now) (sym a.holds) (goes_undone t.version why state now (shut_unit now shut) shut (shut_began t.version now shut)))
+    put (shut_off told (db engine') (live engine') between s.0 now shut off) p.below (λ e. p.writers (same ∙ e)) (λ alone one. ((p.one alone one).0, λ e. (p.one alone one).1 (same ∙ e))) in
     subst (λ x. Together told shared (db engine') (live engine') x new.next states') (sym p.ends.lost)
-      (lost_together told shared (db engine') (live engine') between new.next states' s after (ap is_open put.here ∙ shut) off)
+    (lost_together told shared (db engine') (live engine') between new.next states' s after (ap is_open put.here ∙ shut) off)

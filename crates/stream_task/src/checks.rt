@@ -32,11 +32,7 @@ fn fail_of(fail: PrepareFail) -> CheckFail
 }
 
 /// The statement with its values, or the code of the first check that refuses it.
-pub(crate) fn check(
-    alloc: Global,
-    texts: &StoredTexts,
-    stmt: &Stmt,
-) -> Result<BoundStmt, CheckFail>
+pub(crate) fn check(alloc: Global, texts: &StoredTexts, stmt: &Stmt) -> Result<BoundStmt, CheckFail>
     ensures exact { ChecksAs (ready_of texts.now stmt.now) result }
     ensures passed { IfOk result (λ ready. class_refused ready.class ≡ None) }
 {

@@ -119,7 +119,9 @@ fn took_alone(alloc: Global, want_rows: bool, state: TxnState, entry: &Entry) ->
     match entry {
         Entry::Alone { answer, .. } => answered(alloc, want_rows, state, answer),
         Entry::Failed {
-            unit: None, cause, ..
+            unit: None,
+            cause,
+            ..
         } => Went::Stopped(code_of(*cause), state),
         _ => unreachable!(),
     }
@@ -133,7 +135,9 @@ fn begun_of(entry: &Entry) -> Result<u64, Code>
     match entry {
         Entry::Began { unit, .. } => Ok(*unit),
         Entry::Failed {
-            unit: None, cause, ..
+            unit: None,
+            cause,
+            ..
         } => Err(code_of(*cause)),
         _ => unreachable!(),
     }
@@ -210,13 +214,7 @@ fn took_ended(alloc: Global, entry: &Entry) -> Went
 }
 
 /// What the entry of a reader that is to write means.
-fn took_upgrade(
-    alloc: Global,
-    want_rows: bool,
-    state: TxnState,
-    unit: u64,
-    entry: &Entry,
-) -> Went
+fn took_upgrade(alloc: Global, want_rows: bool, state: TxnState, unit: u64, entry: &Entry) -> Went
     requires { IsSome (takes_upgrade want_rows state unit entry.now) }
     ensures taken { IsTaken (takes_upgrade want_rows state unit entry.now) result }
     ensures goes { is_waiting result ≡ false }
