@@ -1,25 +1,19 @@
 -- The entry of a poll of a statement.
-use Rattle.std.proofs.Common.{◌⊎◌, inl, inr, ◌≡◌, ◌≢◌, ◌≤◌, ◌<◌, ◌+◌, ◌++◌, ◌∷◌, [], List, ℕ, Bool, true, false, cond, Option, Some, None, Result, Ok, Err, IsTrue, refl, sym, ap, ◌∙◌, subst, arith, append-nil}
-use Rattle.std.specs.Option.{IsSome, IsSomeAnd}
+use Rattle.std.proofs.Common.{◌⊎◌, inl, inr, ◌≡◌, ◌≤◌, ◌++◌, ◌∷◌, [], List, ℕ, Bool, true, false, Option, Some, None, Result, Ok, refl, sym, ap, ◌∙◌, subst, arith, append-nil}
+use Rattle.std.specs.Option.{IsSome}
 use Rattle.serial_order.proofs.Check.{some_and}
 use Rattle.hrana_value.specs.declared.StreamNo.{StreamNo}
 use Rattle.hrana_stmt.specs.declared.codes.Code.{Code}
-use Rattle.hrana_stmt.specs.declared.codes.Code.TheVariants.{Busy}
 use Rattle.hrana_stmt.specs.declared.statements.Stmt.{Stmt}
-use Rattle.hrana_stmt.specs.Codes.{error_of}
-use Rattle.hrana_batch.specs.declared.outcomes.Outcome.{Outcome}
-use Rattle.hrana_batch.specs.declared.outcomes.Outcome.TheVariants.{Failed as FailedWith}
 use Rattle.sql_text.specs.declared.class.Class.{Class}
 use Rattle.sql_text.specs.declared.prepared.Prepared.{Prepared}
 use Rattle.serial_order.specs.Serial.{Meaning}
 use Rattle.txn_table.specs.Turns.{Turns, given_back, after_end}
-use Rattle.txn_table.specs.declared.table.Need.TheVariants as need
 use Rattle.txn_table.proofs.StreamLemmas.{true_not_false}
 use Rattle.engine_core.specs.Causes.{RoseBy}
 use Rattle.engine_core.specs.Engine.{is_write}
-use Rattle.engine_core.specs.Journal.{fault_of}
 use Rattle.engine_core.specs.Noted.{Noted, next_after}
-use Rattle.engine_core.specs.Transactions.{Lives, SameLive, NoneLive}
+use Rattle.engine_core.specs.Transactions.{Lives, NoneLive}
 use Rattle.engine_core.specs.declared.statement.BoundStmt.{BoundStmt}
 use Rattle.engine_core.specs.declared.entries.Answer.{Answer}
 use Rattle.engine_core.specs.declared.entries.Deny.{Deny}
@@ -28,20 +22,20 @@ use Rattle.engine_core.specs.declared.entries.How.TheVariants as how
 use Rattle.engine_core.specs.declared.entries.Undo.{Undo}
 use Rattle.engine_core.specs.declared.entries.Entry.{Entry}
 use Rattle.engine_core.specs.declared.entries.Entry.TheVariants as entry
-use Rattle.stream_task.specs.Adds.{AddsOne, Acts, RowPolls, PlanPolls, seen_in, next_by, PollsStatement, ReadyPolls, Falls, undone_of}
-use Rattle.stream_task.specs.Checks.{IsReady, IsReadyOf, ready_of}
-use Rattle.stream_task.specs.Effect.{Effect, Effects}
-use Rattle.stream_task.specs.Moved.{Moved, ComesFrom, GoneFrom, AgreesAs, AreBelow, WritesByTurn, LivesByTurn, StaysOne, turn_by, turn_given, table_given, settled}
+use Rattle.stream_task.specs.Adds.{AddsOne, Acts, RowPolls, PlanPolls, seen_in, PollsStatement, ReadyPolls, Falls, undone_of}
+use Rattle.stream_task.specs.Checks.{IsReadyOf, ready_of}
+use Rattle.stream_task.specs.Effect.{Effect}
+use Rattle.stream_task.specs.Moved.{ComesFrom, GoneFrom, AgreesAs, AreBelow, WritesByTurn, LivesByTurn, StaysOne, turn_given, table_given, settled}
 use Rattle.stream_task.specs.Session.{unit_of}
 use Rattle.stream_task.specs.Statement.{HasPushed, Denies, RunsRow, RowEnds, RowGoes, RowFalls}
 use Rattle.stream_task.specs.Table.{Seen, plan, need_of, wants_turn, begins_writer, MayAdd, MayBegin, MayBeAlone, MayRun, MayCommit, MayUpgrade, takes, left_by, is_waiting, state_after, IsTaken}
 use Rattle.stream_task.specs.declared.session.TxnState.{TxnState}
-use Rattle.stream_task.specs.declared.session.TxnState.TheVariants.{Auto, Deferred, Reading, Writing}
+use Rattle.stream_task.specs.declared.session.TxnState.TheVariants.{Deferred, Reading, Writing}
 use Rattle.stream_task.specs.declared.texts.StoredText.{StoredText}
 use Rattle.stream_task.specs.declared.table.Row.{Row}
 use Rattle.stream_task.specs.declared.table.Row.TheVariants as row
 use Rattle.stream_task.specs.declared.table.Plan.{Plan}
-use Rattle.stream_task.specs.declared.table.Plan.TheVariants.{Refuses, Becomes, Adds}
+use Rattle.stream_task.specs.declared.table.Plan.TheVariants.{Adds}
 use Rattle.stream_task.specs.declared.table.Went.{Went}
 use Rattle.stream_task.specs.declared.table.Went.TheVariants.{Waits, Still, Out, Stopped, Short}
 use Rattle.stream_task.specs.declared.turns.Turn.TheVariants.{Taken, Denied}
@@ -146,9 +140,9 @@ ran_facts shared told m db live faults s engine engine' t held t' old new st wan
     let may : MayAdd seen s q r ran.e = ran.may t.turn t.version (is_granted t r took) in
     let left : t' ≡ settled s ran.e (table_given t s (need_of r)) = ran.turn ∙ ap (λ (x : Turns). settled s ran.e x) table in
     let moved : Moves s (begins_writer r) ran.e t t' =
-        subst (λ (x : Turns). Moves s (begins_writer r) ran.e t x) (sym left) (moves shared told (db engine) (live engine) t s q st r seen ran.e stood start.agrees took refl refl may) in
+    subst (λ (x : Turns). Moves s (begins_writer r) ran.e t x) (sym left) (moves shared told (db engine) (live engine) t s q st r seen ran.e stood start.agrees took refl refl may) in
     let from : ComesFrom told (begins_writer r) (db engine) (live engine) old.next t s (Some ran.e) =
-        comes_from shared told (db engine) (live engine) t s q st r seen ran.e stood start.agrees start.below start.writers took refl refl may in
+    comes_from shared told (db engine) (live engine) t s q st r seen ran.e stood start.agrees start.below start.writers took refl refl may in
     let version : held.version ≡ t.version = ap (λ (x : Turns). x.version) table ∙ version_kept s t r took in
     let taken : IsTaken (takes (λ unit. t.version) want st r ran.e) went = subst (λ (v : ℕ). IsTaken (takes (λ unit. v) want st r ran.e) went) version ran.taken in
     record {

@@ -1,5 +1,5 @@
 -- One poll of a request, by what was added.
-use Rattle.std.proofs.Common.{◌≡◌, ◌≢◌, ◌≤◌, ◌+◌, ◌-◌, ◌^◌, ◌⊎◌, min, ℕ, Bool, true, false, List, [], ◌∷◌, ◌++◌, Option, Some, None, refl, sym, ap, ◌∙◌, subst, inl, inr, arith, append-nil}
+use Rattle.std.proofs.Common.{◌≡◌, ◌≢◌, ◌⊎◌, ℕ, Bool, true, false, Option, Some, None, refl, sym, ap, ◌∙◌, subst, inl, inr, arith, append-nil}
 use Rattle.hrana_value.specs.declared.StreamNo.{StreamNo}
 use Rattle.hrana_stmt.specs.declared.statements.Stmt.{Stmt}
 use Rattle.serial_order.specs.Serial.{Meaning}
@@ -11,7 +11,7 @@ use Rattle.engine_core.specs.declared.entries.Answer.{Answer}
 use Rattle.engine_core.specs.declared.entries.Entry.{Entry}
 use Rattle.stream_task.specs.Table.{Seen, state_after}
 use Rattle.stream_task.specs.Adds.{AddsOne, PollsStatement}
-use Rattle.stream_task.specs.Moved.{AgreesAs, LivesByTurn, StaysOne}
+use Rattle.stream_task.specs.Moved.{AgreesAs}
 use Rattle.stream_task.specs.Doing.{Session}
 use Rattle.stream_task.specs.Advance.{statement_of, StartsIn, Leaves, PollsRunning, PollsWork, Closes, Does, IsTodo, todo_of, waits_on, state_left}
 use Rattle.stream_task.specs.Session.{is_auto, is_shut}
@@ -24,7 +24,7 @@ use Rattle.stream_task.specs.declared.todo.Todo.{Todo}
 use Rattle.stream_task.specs.declared.todo.Todo.TheVariants as todo
 use Rattle.stream_task.specs.declared.advance.Advanced.{Advanced}
 use Rattle.stream_task.specs.declared.advance.Advanced.TheVariants.{Waits, Ran, Replied, Broke}
-use Rattle.stream_task.proofs.TodoLemmas.{Answered, StartsTodo, todo_starts, answer_rests, LeavesAs, leaves_as}
+use Rattle.stream_task.proofs.TodoLemmas.{Answered, StartsTodo, todo_starts, answer_rests, leaves_as}
 
 -- P holds of more, and the stream waits as much
 pub adds_more : {X D : Type 0} (told : Bool) (m : Meaning D BoundStmt Answer) (db : X → D) (live : X → Lives D) (faults : X → ℕ) (stream : StreamNo) (engine engine' : X) (t t' : Turns) (old new : Noted) (w w' : Bool) (P Q : Option Entry → Type 0)

@@ -1,32 +1,29 @@
 -- The stream agrees with the engine and the turn after the entry of a row, and what the entry says of what was before.
-use Rattle.std.proofs.Common.{◌≡◌, ◌≢◌, ◌≤◌, ◌<◌, ◌+◌, ◌⊎◌, ◌||◌, ℕ, Bool, true, false, cond, Option, Some, None, IsTrue, refl, sym, ap, ◌∙◌, subst, arith, inl, inr}
-use Rattle.std.specs.Option.{IsSome}
+use Rattle.std.proofs.Common.{◌≡◌, ◌≢◌, ◌≤◌, ◌||◌, ℕ, Bool, true, false, cond, Option, Some, None, IsTrue, refl, sym, ap, ◌∙◌, subst, arith, inl, inr}
 use Rattle.hrana_value.specs.declared.StreamNo.{StreamNo}
-use Rattle.sql_text.specs.declared.class.Class.{Class}
 use Rattle.sql_text.specs.declared.class.Class.TheVariants as class
 use Rattle.serial_order.specs.Serial.{Meaning}
 use Rattle.txn_table.specs.Turns.{Turns, given_back}
 use Rattle.txn_table.proofs.StreamLemmas.{true_not_false, or_true}
 use Rattle.engine_core.specs.Engine.{is_write, IsReadOrWrite}
-use Rattle.engine_core.specs.Transactions.{Lives, View, NoWriter, NoneLive, NoOtherWriter, StartsAt, MayCommit as MayCommitIn}
+use Rattle.engine_core.specs.Transactions.{Lives, View, NoWriter, StartsAt}
 use Rattle.engine_core.specs.declared.statement.BoundStmt.{BoundStmt}
 use Rattle.engine_core.specs.declared.entries.Answer.{Answer}
 use Rattle.engine_core.specs.declared.entries.How.TheVariants as how
-use Rattle.engine_core.specs.declared.entries.Undo.TheVariants as undo
 use Rattle.engine_core.specs.declared.entries.Entry.{Entry}
 use Rattle.engine_core.specs.declared.entries.Entry.TheVariants as entry
 use Rattle.stream_task.specs.Effect.{Effect}
-use Rattle.stream_task.specs.Moved.{ComesFrom, AloneFrom, RanFrom, MayWrite, GoneFrom, AgreesAs, WritesIn, ReadsIn, AreBelow, WritesByTurn, LivesByTurn, turn_given, table_given}
+use Rattle.stream_task.specs.Moved.{ComesFrom, AloneFrom, RanFrom, GoneFrom, AgreesAs, WritesIn, ReadsIn, AreBelow, WritesByTurn, turn_given}
 use Rattle.stream_task.specs.Table.{Seen, MayAdd, MayBeAlone, MayBegin, MayRun, MayCommit, wrote, need_of, begins_writer, takes, takes_alone, takes_begun, takes_ran, takes_upgrade, takes_ended, begun_by, left_by, is_waiting, state_after, IsTaken, empty_result}
 use Rattle.hrana_batch.specs.declared.outcomes.Outcome.TheVariants as outcome
 use Rattle.stream_task.specs.declared.session.TxnState.{TxnState}
-use Rattle.stream_task.specs.declared.session.TxnState.TheVariants.{Auto, Deferred, Reading, Writing, Dead}
+use Rattle.stream_task.specs.declared.session.TxnState.TheVariants.{Auto, Deferred, Reading, Writing}
 use Rattle.stream_task.specs.declared.table.Row.{Row}
 use Rattle.stream_task.specs.declared.table.Row.TheVariants as row
 use Rattle.stream_task.specs.declared.table.Went.{Went}
 use Rattle.stream_task.specs.declared.table.Went.TheVariants.{Waits, Still, Out, Stopped, Short}
 use Rattle.stream_task.specs.declared.turns.Turn.TheVariants.{Taken}
-use Rattle.stream_task.proofs.TurnLemmas.{none_some, some_one, not_held, given_back_is, took_alone, took_begin, took_upgrade, current_upgrade}
+use Rattle.stream_task.proofs.TurnLemmas.{some_one, not_held, given_back_is, took_alone, took_begin, took_upgrade, current_upgrade}
 use Rattle.stream_task.proofs.OriginLemmas.{Stands, write_is, read_no_write, read_fits, write_fits, some_is, own_lives, own_starts, no_other}
 use Rattle.stream_task.proofs.MovedLemmas.{Moves, not_denied, kept_turn, reader_keeps}
 

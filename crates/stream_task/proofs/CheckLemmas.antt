@@ -1,5 +1,5 @@
 -- A statement that is prepared, or not, by its text.
-use Rattle.std.proofs.Common.{◌≡◌, ℕ, List, Option, Some, None, Result, Ok, Err, ap, ◌∙◌, refl, sym, subst}
+use Rattle.std.proofs.Common.{◌≡◌, ℕ, List, Some, None, Result, Err, ap, ◌∙◌, refl, sym, subst}
 use Rattle.hrana_value.specs.declared.value.Value.{Value}
 use Rattle.hrana_stmt.specs.declared.statements.NamedArg.{NamedArg}
 use Rattle.hrana_stmt.specs.declared.statements.Stmt.{Stmt}

@@ -1,5 +1,5 @@
 -- What an entry keeps of the live transactions and the turn.
-use Rattle.std.proofs.Common.{◌≡◌, ◌≢◌, ◌≤◌, ◌<◌, ◌+◌, ◌||◌, ℕ, Bool, true, false, cond, Option, Some, None, refl, sym, ap, ap₂, ◌∙◌, subst, arith, inl, inr}
+use Rattle.std.proofs.Common.{◌≡◌, ◌≢◌, ◌||◌, ℕ, Bool, true, false, cond, Option, Some, None, refl, sym, ap, ap₂, ◌∙◌, subst, arith, inl, inr}
 use Rattle.std.specs.Option.{IsSome}
 use Rattle.std.proofs.lemmas.Bool.{cases_Bool, cases_eq}
 use Rattle.hrana_value.specs.declared.StreamNo.{StreamNo}
@@ -17,7 +17,7 @@ use Rattle.stream_task.specs.Adds.{next_by}
 use Rattle.stream_task.specs.Effect.{Effects}
 use Rattle.stream_task.specs.Moved.{ComesFrom, GoneFrom, AreBelow, WritesByTurn, LivesByTurn, HasOne, StaysOne, turn_by}
 use Rattle.stream_task.proofs.TurnLemmas.{none_some, some_one}
-use Rattle.stream_task.proofs.OriginLemmas.{some_is, own_lives}
+use Rattle.stream_task.proofs.OriginLemmas.{own_lives}
 
 no_some : {X : Type 0} (o : Option X) → o ≡ None → IsSome o → ⊥
 no_some None e h = true_not_false (sym h)

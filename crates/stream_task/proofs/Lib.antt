@@ -5,8 +5,14 @@
 --   each_poll_leaves_the_meaning, each_reply_is_meant      laws/, by RequestLemmas over MeansLemmas
 --   replies_stand_in_order, shut_streams_add_nothing       laws/, by TaskLemmas
 --   the laws of together.rt                   together/, by TogetherLemmas over GoesLemmas
+--   batches_are_meant                         laws/, by BatchLemmas
 --   poll_running, advance                     advance/, by AdvanceLemmas over TodoLemmas
 --   StreamTask::end: waits                    task/StreamTask/end, by EndLemmas
+--   run_row                                   statement/run_row, by RowLemmas
+--   poll_row                                  statement/poll_row, by AddsLemmas over OriginLemmas (in which states a row stands), TurnLemmas,
+--                                             MovedLemmas (the table), AgreeLemmas (the stream after it) and KeepLemmas (engine and turn)
+--   poll_statement, end_unit: adds            statement/, by AddsLemmas
+--   act: effect                               act/act
 pub mod CheckLemmas
 pub mod StepLemmas
 pub mod TodoLemmas
@@ -15,6 +21,7 @@ pub mod EndLemmas
 pub mod MeansLemmas
 pub mod RequestLemmas
 pub mod TaskLemmas
+pub mod BatchLemmas
 pub mod RowLemmas
 pub mod TurnLemmas
 pub mod OriginLemmas

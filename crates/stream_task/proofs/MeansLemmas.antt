@@ -15,8 +15,8 @@ use Rattle.engine_core.specs.declared.entries.Entry.TheVariants as entry
 use Rattle.stream_task.specs.Session.{is_auto, is_shut}
 use Rattle.stream_task.specs.Checks.{ready_of}
 use Rattle.stream_task.specs.Table.{plan, takes, takes_alone, begun_by, takes_begun, takes_ran, takes_upgrade, takes_ended, Seen, IsVersioned, empty_result}
-use Rattle.stream_task.specs.Adds.{PollsStatement, ReadyPolls, PlanPolls, RowPolls, Acts}
-use Rattle.stream_task.specs.Means.{Taken, took, broke, took_went, class_means, ready_means}
+use Rattle.stream_task.specs.Adds.{PollsStatement, ReadyPolls, PlanPolls}
+use Rattle.stream_task.specs.Means.{took, broke, took_went, class_means, ready_means}
 use Rattle.stream_task.specs.declared.session.TxnState.{TxnState}
 use Rattle.stream_task.specs.declared.session.TxnState.TheVariants.{Auto, Deferred, Reading, Writing, Dead, Closed}
 use Rattle.stream_task.specs.declared.texts.StoredText.{StoredText}

@@ -1,28 +1,25 @@
 -- What an entry does to the turn, by the row that added it.
-use Rattle.std.proofs.Common.{◌≡◌, ◌≢◌, ◌≤◌, ◌<◌, ◌+◌, ◌⊎◌, ℕ, Bool, true, false, cond, Option, Some, None, IsTrue, refl, sym, ap, ◌∙◌, subst, arith, inl, inr}
-use Rattle.std.specs.Option.{IsSome}
+use Rattle.std.proofs.Common.{◌≡◌, ◌≢◌, ◌≤◌, ◌+◌, ℕ, Bool, true, false, cond, Option, Some, None, refl, sym, ap, ◌∙◌, subst, arith}
 use Rattle.hrana_value.specs.declared.StreamNo.{StreamNo}
 use Rattle.sql_text.specs.declared.class.Class.{Class}
 use Rattle.sql_text.specs.declared.class.Class.TheVariants as class
 use Rattle.txn_table.specs.Turns.{Turns, given_back}
 use Rattle.txn_table.proofs.StreamLemmas.{true_not_false}
-use Rattle.engine_core.specs.Engine.{is_write, IsReadOrWrite}
-use Rattle.engine_core.specs.Transactions.{Lives, NoWriter, NoneLive, NoOtherWriter, StartsAt, MayCommit as MayCommitIn}
+use Rattle.engine_core.specs.Engine.{is_write}
+use Rattle.engine_core.specs.Transactions.{Lives}
 use Rattle.engine_core.specs.declared.statement.BoundStmt.{BoundStmt}
-use Rattle.engine_core.specs.declared.entries.Answer.{Answer}
 use Rattle.engine_core.specs.declared.entries.Deny.TheVariants as deny
 use Rattle.engine_core.specs.declared.entries.How.TheVariants as how
-use Rattle.engine_core.specs.declared.entries.Undo.TheVariants as undo
 use Rattle.engine_core.specs.declared.entries.Entry.{Entry}
 use Rattle.engine_core.specs.declared.entries.Entry.TheVariants as entry
-use Rattle.stream_task.specs.Moved.{settled, turn_by, version_by, turn_given, table_given, AgreesAs, WritesIn, ReadsIn}
-use Rattle.stream_task.specs.Table.{Seen, MayAdd, MayBeAlone, MayBegin, MayRun, MayCommit, MayUpgrade, wrote, need_of, begins_writer}
+use Rattle.stream_task.specs.Moved.{settled, turn_by, version_by, turn_given, table_given, AgreesAs}
+use Rattle.stream_task.specs.Table.{Seen, MayAdd, MayBeAlone, MayBegin, MayRun, MayCommit, MayUpgrade, need_of, begins_writer}
 use Rattle.stream_task.specs.declared.session.TxnState.{TxnState}
 use Rattle.stream_task.specs.declared.session.TxnState.TheVariants.{Auto, Deferred, Reading, Writing}
 use Rattle.stream_task.specs.declared.table.Row.{Row}
 use Rattle.stream_task.specs.declared.table.Row.TheVariants as row
 use Rattle.stream_task.specs.declared.turns.Turn.TheVariants.{Taken}
-use Rattle.stream_task.proofs.TurnLemmas.{none_some, not_held, given_own, given_other, given_back_is, TookTurn, took_alone, took_begin, took_upgrade, current_upgrade}
+use Rattle.stream_task.proofs.TurnLemmas.{none_some, given_own, given_other, TookTurn, took_alone, took_begin, took_upgrade, current_upgrade}
 use Rattle.stream_task.proofs.OriginLemmas.{Stands, write_is, read_no_write}
 
 -- the table went by the entry

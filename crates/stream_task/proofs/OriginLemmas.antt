@@ -1,28 +1,22 @@
 -- In which states a row stands, and what it needs there of the engine and the turn.
-use Rattle.std.proofs.Common.{◌≡◌, ◌≢◌, ◌≤◌, ◌<◌, ◌⊎◌, ℕ, Bool, true, false, cond, Option, Some, None, IsTrue, refl, sym, ap, ◌∙◌, subst, arith, inl, inr}
+use Rattle.std.proofs.Common.{◌≡◌, ℕ, Bool, true, false, Option, Some, None, IsTrue, refl, sym, ap, ◌∙◌, subst}
 use Rattle.std.specs.Option.{IsSome}
-use Rattle.hrana_value.specs.declared.StreamNo.{StreamNo}
 use Rattle.sql_text.specs.declared.class.Class.{Class}
 use Rattle.sql_text.specs.declared.class.Class.TheVariants as class
 use Rattle.sql_text.specs.declared.class.Mode.TheVariants as mode
 use Rattle.txn_table.specs.Turns.{Turns}
-use Rattle.txn_table.specs.declared.table.Need.TheVariants as need
-use Rattle.txn_table.proofs.StreamLemmas.{true_not_false}
 use Rattle.engine_core.specs.Engine.{is_write, IsReadOrWrite}
-use Rattle.engine_core.specs.Transactions.{Lives, View, NoWriter, NoneLive, NoOtherWriter, StartsAt, MayCommit}
-use Rattle.engine_core.specs.declared.statement.BoundStmt.{BoundStmt}
-use Rattle.stream_task.specs.Act.{IsGranted, MayAct, MayRunIn}
-use Rattle.stream_task.specs.Moved.{AgreesAs, WritesIn, ReadsIn, AreBelow, WritesByTurn, LivesByTurn, turn_given, table_given}
-use Rattle.stream_task.specs.Statement.{HasTurn}
+use Rattle.engine_core.specs.Transactions.{Lives, View, NoWriter, NoOtherWriter, StartsAt, MayCommit}
+use Rattle.stream_task.specs.Act.{IsGranted}
+use Rattle.stream_task.specs.Moved.{turn_given}
 use Rattle.stream_task.specs.Table.{plan, need_of}
 use Rattle.stream_task.specs.declared.session.TxnState.{TxnState}
 use Rattle.stream_task.specs.declared.session.TxnState.TheVariants.{Auto, Deferred, Reading, Writing, Dead, Closed}
 use Rattle.stream_task.specs.declared.table.Row.{Row}
 use Rattle.stream_task.specs.declared.table.Row.TheVariants as row
-use Rattle.stream_task.specs.declared.table.Plan.{Plan}
-use Rattle.stream_task.specs.declared.table.Plan.TheVariants.{Refuses, Becomes, Adds}
+use Rattle.stream_task.specs.declared.table.Plan.TheVariants.{Adds}
 use Rattle.stream_task.specs.declared.turns.Turn.TheVariants.{Taken}
-use Rattle.stream_task.proofs.TurnLemmas.{none_some, some_one, not_held, took_alone, took_begin, took_upgrade, current_upgrade, TookTurn}
+use Rattle.stream_task.proofs.TurnLemmas.{none_some, some_one, took_upgrade, current_upgrade}
 
 -- ---- the states in which a row stands, by the class of its statement
 
@@ -103,9 +97,6 @@ read_no_write c e = ap is_write e
 pub write_is : (c : Class) → c ≡ class.Write → is_write c ≡ true
 write_is c e = ap is_write e
 
-read_not_write : (c : Class) → c ≡ class.Read → c ≡ class.Write → ⊥
-read_not_write c r w = true_not_false (sym (write_is c w) ∙ read_no_write c r)
-
 pub read_fits : (c : Class) → c ≡ class.Read → IsReadOrWrite c
 read_fits c e = subst IsReadOrWrite (sym e) tt
 
@@ -124,85 +115,6 @@ own_starts {D} told db live u m h v e = ap (λ (w : View D). w.start) (some_one 
 
 pub no_other : {D : Type 0} (live : Lives D) (u : ℕ) → NoWriter live → NoOtherWriter live u
 no_other live u h k v e ne = h k v e
-
--- the stream holds the turn exactly where it is Writing
-pub turn_of_reader : {D : Type 0} (told : Bool) (db : D) (live : Lives D) (t : Turns) (s : StreamNo) (u had : ℕ) → AgreesAs told db live t s (Reading u had) → t.turn ≢ Some s
-turn_of_reader told db live t s u had a = a.turn
-
-run_reading : {D : Type 0} (told : Bool) (db : D) (live : Lives D) (t : Turns) (s : StreamNo) (u had : ℕ) (q : BoundStmt) → q.class ≡ class.Read → ReadsIn told db live t s u had → MayRunIn told db live u q
-run_reading told db live t s u had q r a = record {
-  class = read_fits q.class r;
-  lives = a.lives;
-  turn = λ w. absurd (read_not_write q.class r w);
-  current = λ w told_is. absurd (read_not_write q.class r w);
-}
-
-run_writing : {D : Type 0} (told : Bool) (db : D) (live : Lives D) (t : Turns) (s : StreamNo) (u : ℕ) (q : BoundStmt) → IsReadOrWrite q.class → WritesIn told db live t s u → MayRunIn told db live u q
-run_writing told db live t s u q c a = record {
-  class = c;
-  lives = own_lives told db live u a.own;
-  turn = λ w. a.only;
-  current = λ w told_is. own_starts told db live u a.own told_is;
-}
-
-run_upgrade : {D : Type 0} (told : Bool) (db : D) (live : Lives D) (t : Turns) (s : StreamNo) (u had : ℕ) (q : BoundStmt) → q.class ≡ class.Write → ReadsIn told db live t s u had → NoWriter live → t.version ≤ had → MayRunIn told db live u q
-run_upgrade told db live t s u had q w a none now = record {
-  class = write_fits q.class w;
-  lives = a.lives;
-  turn = λ _. no_other live u none;
-  current = λ _ told_is. a.current told_is now;
-}
-
-pub may_act : {D : Type 0} (shared told : Bool) (db : D) (live : Lives D) (t : Turns) (s : StreamNo) (next : ℕ) (q : BoundStmt) (st : TxnState) (r : Row)
-    → Stands shared q.class st r → AgreesAs told db live t s st → AreBelow live next → WritesByTurn live t → LivesByTurn shared live t → turn_given t (need_of r) ≡ Taken
-    → MayAct shared told db live next q r
-may_act shared told db live t s next q Auto row.Alone h a below writers quiet took =
-    let free = (took_alone s t took).free in
-    record { class = h; turn = λ w. writers free; quiet = λ n. quiet n free }
-may_act shared told db live t s next q Auto row.ReadAlone h a below writers quiet took = record {
-  class = read_fits q.class h.1;
-  turn = λ w. absurd (read_not_write q.class h.1 w);
-  quiet = λ n. absurd (true_not_false (sym h.0 ∙ n));
-}
-may_act shared told db live t s next q Auto row.Begin h a below writers quiet took =
-    let free = (took_begin s t took).free in
-    record { fresh = below next (omega arith); turn = λ w. writers free; quiet = λ n. quiet n free }
-may_act shared told db live t s next q Deferred row.BeginFirst h a below writers quiet took =
-    let free = (took_begin s t took).free in
-    record { fresh = below next (omega arith); turn = λ w. writers free; quiet = λ n. quiet n free }
-may_act shared told db live t s next q Deferred row.ReadFirst h a below writers quiet took = record {
-  fresh = below next (omega arith);
-  turn = λ w. absurd (true_not_false (sym w));
-  quiet = λ n. absurd (true_not_false (sym h ∙ n));
-}
-may_act shared told db live t s next q (Reading u had) (row.Run v) h a below writers quiet took =
-    subst (λ n. MayRunIn told db live n q) (sym h.0) (run_reading told db live t s u had q h.1 a)
-may_act shared told db live t s next q (Reading u had) (row.Upgrade v began) h a below writers quiet took =
-    let now : t.version ≤ had = subst (λ n. t.version ≤ n) h.1 (current_upgrade t began took) in
-    subst (λ n. MayRunIn told db live n q) (sym h.0) (run_upgrade told db live t s u had q h.2 a (writers (took_upgrade s t began took).free) now)
-may_act shared told db live t s next q (Reading u had) (row.EndRead v) h a below writers quiet took = subst (λ n. IsSome (live n)) (sym h) a.lives
-may_act shared told db live t s next q (Reading u had) (row.Undo v) h a below writers quiet took = subst (λ n. IsSome (live n)) (sym h) a.lives
-may_act shared told db live t s next q (Writing u) (row.Run v) h a below writers quiet took =
-    subst (λ n. MayRunIn told db live n q) (sym h.0) (run_writing told db live t s u q h.1 a)
-may_act shared told db live t s next q (Writing u) (row.Commit v) h a below writers quiet took = subst (λ n. MayCommit told db live n) (sym h) a.own
-may_act shared told db live t s next q (Writing u) (row.Undo v) h a below writers quiet took = subst (λ n. IsSome (live n)) (sym h) (own_lives told db live u a.own)
-may_act shared told db live t s next q st r h a below writers quiet took = absurd h
-
-pub has_turn : {D : Type 0} (shared told : Bool) (db : D) (live : Lives D) (t : Turns) (s : StreamNo) (q : BoundStmt) (st : TxnState) (r : Row)
-    → Stands shared q.class st r → AgreesAs told db live t s st → turn_given t (need_of r) ≡ Taken → HasTurn s q (table_given t s (need_of r)) r
-has_turn shared told db live t s q Auto row.Alone h a took = (took_alone s t took).turn
-has_turn shared told db live t s q Auto row.ReadAlone h a took = read_no_write q.class h.1
-has_turn shared told db live t s q (Writing u) (row.Commit v) h a took = a.turn
-has_turn shared told db live t s q Auto row.Begin h a took = tt
-has_turn shared told db live t s q Deferred row.BeginFirst h a took = tt
-has_turn shared told db live t s q Deferred row.ReadFirst h a took = tt
-has_turn shared told db live t s q (Reading u had) (row.Run v) h a took = tt
-has_turn shared told db live t s q (Reading u had) (row.Upgrade v began) h a took = tt
-has_turn shared told db live t s q (Reading u had) (row.EndRead v) h a took = tt
-has_turn shared told db live t s q (Reading u had) (row.Undo v) h a took = tt
-has_turn shared told db live t s q (Writing u) (row.Run v) h a took = tt
-has_turn shared told db live t s q (Writing u) (row.Undo v) h a took = tt
-has_turn shared told db live t s q st r h a took = absurd h
 
 pub is_granted : (t : Turns) (r : Row) → turn_given t (need_of r) ≡ Taken → IsGranted r t.turn t.version
 is_granted t (row.Upgrade v began) took = ((took_upgrade (record { 0 = 0 }) t began took).free, current_upgrade t began took)

@@ -1,5 +1,5 @@
 -- What a poll of a request leaves of the request's meaning.
-use Rattle.std.proofs.Common.{◌≡◌, ◌⊎◌, ℕ, Bool, true, false, List, [], ◌∷◌, ◌++◌, Option, Some, None, option_to_list, refl, sym, ap, ◌∙◌, subst, inl, inr, if◌then◌else◌}
+use Rattle.std.proofs.Common.{◌≡◌, ℕ, Bool, false, List, [], ◌∷◌, ◌++◌, Option, Some, None, option_to_list, refl, sym, ap, ◌∙◌, subst, inl, inr}
 use Rattle.std.proofs.lemmas.Bool.{cases_Bool}
 use Rattle.hrana_value.specs.declared.StreamNo.{StreamNo}
 use Rattle.hrana_stmt.specs.declared.codes.Code.{Code}
@@ -16,13 +16,13 @@ use Rattle.stream_task.specs.Session.{is_auto, is_shut, unit_of}
 use Rattle.stream_task.specs.Checks.{ready_of, text_of}
 use Rattle.stream_task.specs.Table.{Seen, IsVersioned}
 use Rattle.stream_task.specs.Adds.{undone_of}
-use Rattle.stream_task.specs.Steps.{is_skipped, pass_over, StartsAt}
+use Rattle.stream_task.specs.Steps.{is_skipped, StartsAt}
 use Rattle.stream_task.specs.Doing.{Session, session_in, in_state, steps_of_text}
-use Rattle.stream_task.specs.Means.{Taken, took, Meant, said, means, open_means, shut_means, running_means, steps_mean, then_means, said_or, execute_means, ready_means, close_means, sequence_means, closed_means, reply_of, ends_with, failed}
-use Rattle.stream_task.specs.Advance.{StartsIn, todo_of, open_todo, shut_todo, running_todo, steps_todo, sequence_todo, closed_todo, statement_of, steps_rest, steps_go_on, replied_or, outcome_leaves, Leaves, Does, PollsWork}
-use Rattle.stream_task.specs.Laws.{IsAfter, PollMeans, AskMeans, Polled, waited, ran, replied}
+use Rattle.stream_task.specs.Means.{Meant, said, means, open_means, shut_means, running_means, steps_mean, then_means, said_or, execute_means, ready_means, close_means, sequence_means, closed_means, ends_with, failed}
+use Rattle.stream_task.specs.Advance.{StartsIn, todo_of, open_todo, shut_todo, running_todo, sequence_todo, closed_todo, statement_of, steps_go_on, replied_or, outcome_leaves, Leaves, Does}
+use Rattle.stream_task.specs.Laws.{IsAfter, PollMeans, AskMeans, waited, ran, replied}
 use Rattle.stream_task.specs.declared.session.TxnState.{TxnState}
-use Rattle.stream_task.specs.declared.session.TxnState.TheVariants.{Auto, Deferred, Reading, Writing, Dead, Closed}
+use Rattle.stream_task.specs.declared.session.TxnState.TheVariants.{Reading, Writing, Closed}
 use Rattle.stream_task.specs.declared.texts.StoredText.{StoredText}
 use Rattle.stream_task.specs.declared.table.Went.{Went}
 use Rattle.stream_task.specs.declared.table.Went.TheVariants as went

@@ -1,15 +1,14 @@
 -- The entries that a row may add.
-use Rattle.std.proofs.Common.{◌≡◌, ◌<◌, ◌≤◌, ◌+◌, ◌-◌, ◌^◌, ◌&&◌, ℕ, Bool, true, false, Option, Some, None, Result, Ok, Err, refl, sym, ap, ◌∙◌, subst, arith}
+use Rattle.std.proofs.Common.{◌≡◌, ◌<◌, ◌-◌, ◌^◌, ℕ, Bool, true, false, Option, Some, None, Result, Ok, Err, refl, sym, arith}
 use Rattle.std.specs.Option.{IsSome}
 use Rattle.hrana_value.specs.declared.StreamNo.{StreamNo}
 use Rattle.txn_table.specs.Turns.{Turns}
 use Rattle.txn_table.proofs.StreamLemmas.{true_not_false}
-use Rattle.engine_core.specs.Engine.{is_write, is_refusal}
+use Rattle.engine_core.specs.Engine.{is_write}
 use Rattle.engine_core.specs.Noted.{IsNumbered}
 use Rattle.engine_core.specs.declared.statement.BoundStmt.{BoundStmt}
 use Rattle.engine_core.specs.declared.entries.Answer.{Answer}
 use Rattle.engine_core.specs.declared.entries.How.TheVariants as how
-use Rattle.engine_core.specs.declared.entries.Undo.TheVariants as undo
 use Rattle.engine_core.specs.declared.entries.Deny.TheVariants as deny
 use Rattle.engine_core.specs.declared.entries.Entry.{Entry}
 use Rattle.engine_core.specs.declared.entries.Entry.TheVariants as entry

@@ -1,12 +1,12 @@
 -- Steps: what is next, and passing over.
-use Rattle.std.proofs.Common.{◌≡◌, ◌<◌, ◌≤◌, ◌+◌, ℕ, suc, Bool, true, false, not, List, [], ◌∷◌, ◌++◌, length, drop, slice_get, Option, Some, None, if◌then◌else◌, refl, sym, ap, ◌∙◌, subst, arith, add-one, length-append, All, IsSomeAnd, IfSome, map}
+use Rattle.std.proofs.Common.{◌≡◌, ◌<◌, ◌≤◌, ℕ, suc, Bool, true, false, not, List, [], ◌∷◌, ◌++◌, length, drop, slice_get, Option, Some, None, refl, sym, ap, ◌∙◌, subst, arith, add-one, length-append, All, IsSomeAnd, IfSome, map}
 use Prim.Native.Nat.{zero}
 use Rattle.std.proofs.lemmas.List.{drop_all}
 use Rattle.std.proofs.lemmas.List.Elements.{All-nil, All-cons}
 use Rattle.sql_text.specs.declared.spans.Span.{Span}
 use Rattle.sql_text.specs.Spans.{AreInOrder}
 use Rattle.hrana_batch.specs.Conditions.{holds_on, NamesBelow}
-use Rattle.hrana_batch.specs.Means.{IsPassedOver, NextOf, NextIs}
+use Rattle.hrana_batch.specs.Means.{NextOf, NextIs}
 use Rattle.hrana_batch.specs.Progress.{Progress, NamesEarlierSteps}
 use Rattle.hrana_batch.specs.declared.conditions.Cond.{Cond}
 use Rattle.hrana_batch.specs.declared.batches.Batch.{Batch}

@@ -1,13 +1,13 @@
 -- What a poll of a stream leaves of the replies that its requests have.
-use Rattle.std.proofs.Common.{◌≡◌, ◌≢◌, ℕ, Bool, true, List, [], ◌∷◌, ◌++◌, Option, None, option_to_list, refl, sym, ap, ◌∙◌, inl, inr, if◌then◌else◌}
+use Rattle.std.proofs.Common.{◌≡◌, ◌≢◌, ℕ, Bool, true, List, [], ◌∷◌, ◌++◌, Option, None, option_to_list, refl, sym, ap, ◌∙◌, inl, inr}
 use Rattle.hrana_value.specs.declared.StreamNo.{StreamNo}
 use Rattle.engine_core.specs.declared.entries.Entry.{Entry}
 use Rattle.stream_task.specs.Session.{is_shut}
 use Rattle.stream_task.specs.Table.{Seen, IsVersioned}
 use Rattle.stream_task.specs.Doing.{Session}
-use Rattle.stream_task.specs.Means.{Meant, means}
+use Rattle.stream_task.specs.Means.{Meant}
 use Rattle.stream_task.specs.Advance.{Does, PollsWork, todo_of, shut_todo, state_left}
-use Rattle.stream_task.specs.Polls.{Task, Polls, PollsAsks, answer_of, task_after}
+use Rattle.stream_task.specs.Polls.{Task, PollsAsks, answer_of, task_after}
 use Rattle.stream_task.specs.Laws.{IsAfter, then_replies, replies, said_by, TaskMeans, ShutAddsNothing}
 use Rattle.stream_task.specs.declared.session.TxnState.{TxnState}
 use Rattle.stream_task.specs.declared.session.TxnState.TheVariants.{Closed}
@@ -18,7 +18,7 @@ use Rattle.stream_task.specs.declared.todo.Todo.TheVariants as todo
 use Rattle.stream_task.specs.declared.advance.Advanced.{Advanced}
 use Rattle.stream_task.specs.declared.advance.Advanced.TheVariants.{Waits, Ran, Replied, Broke}
 use Rattle.stream_task.specs.declared.task.Poll.{Poll}
-use Rattle.stream_task.specs.declared.task.Poll.TheVariants.{Ready, Pending}
+use Rattle.stream_task.specs.declared.task.Poll.TheVariants.{Ready}
 use Rattle.stream_task.specs.declared.task.Stepped.{Stepped}
 use Rattle.stream_task.specs.declared.task.Stepped.TheVariants as stepped
 use Rattle.stream_task.proofs.RequestLemmas.{poll_means}

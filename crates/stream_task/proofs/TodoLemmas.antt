@@ -1,5 +1,5 @@
 -- What a poll is to do, and what it leaves.
-use Rattle.std.proofs.Common.{◌≡◌, ◌⊎◌, ◌<◌, ◌≤◌, ◌+◌, ℕ, Bool, true, false, List, [], ◌∷◌, ◌++◌, length, Option, Some, None, refl, sym, ap, ◌∙◌, subst, inl, inr, if◌then◌else◌, arith}
+use Rattle.std.proofs.Common.{◌≡◌, ◌⊎◌, ℕ, true, false, List, [], ◌∷◌, ◌++◌, Option, Some, None, refl, sym, ◌∙◌, subst, inl, inr, arith}
 use Rattle.std.proofs.lemmas.Bool.{cases_Bool}
 use Rattle.hrana_stmt.specs.declared.codes.Code.{Code}
 use Rattle.hrana_batch.specs.declared.batches.Step.{Step}
@@ -10,12 +10,12 @@ use Rattle.sql_text.specs.Spans.{unclosed_at}
 use Rattle.stream_task.specs.Session.{is_auto, is_shut}
 use Rattle.stream_task.specs.Checks.{text_of}
 use Rattle.stream_task.specs.Table.{is_waiting, state_after}
-use Rattle.stream_task.specs.Steps.{is_skipped, pass_over}
+use Rattle.stream_task.specs.Steps.{is_skipped}
 use Rattle.stream_task.specs.Doing.{Session, session_in, steps_of_text}
 use Rattle.stream_task.specs.Means.{ends_with}
-use Rattle.stream_task.specs.Advance.{StartsIn, todo_of, open_todo, shut_todo, running_todo, sequence_todo, closed_todo, steps_rest, steps_go_on, replied_or, outcome_leaves, waits_on, state_left, Leaves}
+use Rattle.stream_task.specs.Advance.{StartsIn, todo_of, open_todo, shut_todo, running_todo, sequence_todo, closed_todo, steps_rest, replied_or, outcome_leaves, waits_on, state_left, Leaves}
 use Rattle.stream_task.specs.declared.session.TxnState.{TxnState}
-use Rattle.stream_task.specs.declared.session.TxnState.TheVariants.{Auto, Deferred, Reading, Writing, Dead, Closed}
+use Rattle.stream_task.specs.declared.session.TxnState.TheVariants.{Closed}
 use Rattle.stream_task.specs.declared.texts.StoredText.{StoredText}
 use Rattle.stream_task.specs.declared.table.Went.{Went}
 use Rattle.stream_task.specs.declared.table.Went.TheVariants as went

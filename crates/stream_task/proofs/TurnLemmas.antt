@@ -1,9 +1,8 @@
 -- The turn as a poll takes it and gives it back.
-use Rattle.std.proofs.Common.{◌≡◌, ◌≢◌, ◌≤◌, ◌<◌, ◌+◌, ℕ, Bool, true, false, cond, nat_lt, Option, Some, None, refl, sym, ap, ◌∙◌, subst, arith, inl, inr}
+use Rattle.std.proofs.Common.{◌≡◌, ◌≢◌, ◌≤◌, ◌<◌, ℕ, nat_lt, Option, Some, None, refl, sym, ap, ◌∙◌, subst, arith, inl, inr}
 use Rattle.std.proofs.lemmas.Bool.{cases_Bool, ltb-true, ltb-false}
 use Rattle.hrana_value.specs.declared.StreamNo.{StreamNo}
-use Rattle.txn_table.specs.Turns.{Turns, same_stream, now_or, grant_of, after_grant, after_end, given_back}
-use Rattle.txn_table.specs.declared.table.Need.{Need}
+use Rattle.txn_table.specs.Turns.{Turns, same_stream, now_or, grant_of, after_grant, given_back}
 use Rattle.txn_table.specs.declared.table.Need.TheVariants as need
 use Rattle.txn_table.specs.declared.table.Grant.{Grant}
 use Rattle.txn_table.specs.declared.table.Grant.TheVariants.{Now, Wait, Stale, Held as HeldBy}
@@ -11,8 +10,7 @@ use Rattle.txn_table.proofs.StreamLemmas.{same, other, true_not_false}
 use Rattle.engine_core.specs.declared.entries.Deny.{Deny}
 use Rattle.engine_core.specs.declared.entries.Deny.TheVariants as deny
 use Rattle.stream_task.specs.Moved.{turn_for, turn_given, table_given}
-use Rattle.stream_task.specs.declared.turns.Turn.{Turn}
-use Rattle.stream_task.specs.declared.turns.Turn.TheVariants.{Taken, Held, Denied}
+use Rattle.stream_task.specs.declared.turns.Turn.TheVariants.{Taken, Denied}
 
 pub none_some : {X : Type 0} {x : X} → ◌≡◌ {A = Option X} None (Some x) → ⊥
 none_some e = cc
@@ -112,7 +110,8 @@ upgrade_denied s t had why e = elim (cases_Bool (nat_lt had t.version)) [
       (subst (λ (w : Deny). IsDenied t had w) f (refl, refl, ltb-true had t.version l), rw l refl)
   | inr g ↦
       let f : turn_for (now_or HeldBy t.turn t.version) ≡ Denied why = rw g at e in
-      let h = held_denied t.turn t.version why f in
-      (subst (λ (w : Deny). IsDenied t had w) (sym h.2) (h.1, omega (arith, ltb-false had t.version g)),
-       rw (g, h.1) refl)
+      let h = held_denied t.turn t.version why f in (
+        subst (λ (w : Deny). IsDenied t had w) (sym h.2) (h.1, omega (arith, ltb-false had t.version g)),
+        rw (g, h.1) refl,
+      )
 ]

@@ -21,7 +21,6 @@ use Rattle.stream_task.specs.Checks.{IsReady, ready_of}
 use Rattle.stream_task.specs.Effect.{Effects, faults_by, RefusesByCause}
 use Rattle.stream_task.specs.Moved.{Moved}
 use Rattle.stream_task.specs.Table.{plan, wants_turn, Seen, MayAdd, takes, empty_result, left_by}
-use Rattle.stream_task.specs.declared.session.Cause.{Cause}
 use Rattle.stream_task.specs.declared.session.TxnState.{TxnState}
 use Rattle.stream_task.specs.declared.session.TxnState.TheVariants.{Reading, Writing}
 use Rattle.stream_task.specs.declared.texts.StoredText.{StoredText}
@@ -29,7 +28,7 @@ use Rattle.stream_task.specs.declared.table.Row.{Row}
 use Rattle.stream_task.specs.declared.table.Plan.{Plan}
 use Rattle.stream_task.specs.declared.table.Plan.TheVariants.{Refuses, Becomes, Adds}
 use Rattle.stream_task.specs.declared.table.Went.{Went}
-use Rattle.stream_task.specs.declared.table.Went.TheVariants.{Waits, Still, Out, Stopped, Short}
+use Rattle.stream_task.specs.declared.table.Went.TheVariants.{Waits, Out, Short}
 
 -- ---- what a poll adds to the entries, with what the engine did for it
 

@@ -1,5 +1,5 @@
 -- The session of a stream, and its requests that are queued or running.
-use Rattle.std.specs.Prelude.{ℕ, ◌≤◌, false, List, [], ◌∷◌, map, Option, Some, None, slice_range}
+use Rattle.std.specs.Prelude.{ℕ, ◌≤◌, false, List, [], map, Option, Some, None, slice_range}
 use Rattle.hrana_stmt.specs.declared.statements.SqlRef.TheVariants as sql
 use Rattle.hrana_batch.specs.Progress.{NamesEarlierSteps}
 use Rattle.hrana_batch.specs.declared.batches.Step.{Step}

@@ -1,20 +1,24 @@
 -- The laws that join what polls do and what requests mean.
-use Rattle.std.specs.Prelude.{◌≡◌, ◌≢◌, ℕ, Bool, true, List, [], ◌∷◌, ◌++◌, Option, None, option_to_list}
+use Rattle.std.specs.Prelude.{◌≡◌, ◌≢◌, ℕ, Bool, true, List, [], ◌∷◌, ◌++◌, length, Option, None, option_to_list}
 use Rattle.hrana_value.specs.declared.StreamNo.{StreamNo}
+use Rattle.hrana_batch.specs.Means.{BatchMeans}
+use Rattle.hrana_batch.specs.declared.batches.Batch.{Batch}
 use Rattle.stream_requests.specs.declared.replies.Reply.{Reply}
+use Rattle.stream_requests.specs.declared.replies.Reply.TheVariants as reply
 use Rattle.engine_core.specs.declared.entries.Entry.{Entry}
 use Rattle.stream_task.specs.Session.{is_shut}
 use Rattle.stream_task.specs.Table.{Seen, IsVersioned}
 use Rattle.stream_task.specs.Doing.{Session, in_state}
-use Rattle.stream_task.specs.Means.{means, Meant, said}
+use Rattle.stream_task.specs.Means.{means, steps_mean, Meant, said, cut}
 use Rattle.stream_task.specs.Advance.{PollsWork}
 use Rattle.stream_task.specs.Polls.{Polls, Task}
 use Rattle.stream_task.specs.declared.session.TxnState.{TxnState}
+use Rattle.stream_task.specs.declared.work.Kind.TheVariants as kind
 use Rattle.stream_task.specs.declared.work.Work.{Work}
 use Rattle.stream_task.specs.declared.advance.Advanced.{Advanced}
 use Rattle.stream_task.specs.declared.advance.Advanced.TheVariants.{Waits, Ran, Replied, Broke}
 use Rattle.stream_task.specs.declared.task.Poll.{Poll}
-use Rattle.stream_task.specs.declared.task.Poll.TheVariants.{Ready, Pending}
+use Rattle.stream_task.specs.declared.task.Poll.TheVariants.{Ready}
 use Rattle.stream_task.specs.declared.task.Stepped.{Stepped}
 use Rattle.stream_task.specs.declared.task.Stepped.TheVariants as stepped
 
@@ -84,3 +88,15 @@ TaskMeans = (shared : Bool) (had : ℕ → ℕ) (seen : Seen) (old : Task) (adde
 abbrev pub ShutAddsNothing : Type 0
 ShutAddsNothing = (shared : Bool) (seen : Seen) (old : Task) (added : Option Entry) (result : Poll Stepped) (new : Task)
     → is_shut old.session.state ≡ true → Polls shared seen old added result new → (added ≡ None) × (is_shut new.session.state ≡ true)
+
+-- ---- batches
+
+-- Where a batch is answered with its outcomes, they are those that the batch means, for whether the session was in
+-- autocommit at the turn of each step. So are those of its first steps, where the entries ended before the batch did.
+abbrev pub OutcomesAreMeant : Batch → Meant → Type 0
+OutcomesAreMeant batch (said (reply.Batch result) s rest) = (length result.outcomes ≡ length batch.steps) × ((autos : List Bool) × BatchMeans batch autos result.outcomes)
+OutcomesAreMeant batch (cut done s) = (autos : List Bool) × BatchMeans batch autos done
+OutcomesAreMeant batch meant = Unit {0}
+
+abbrev pub BatchesAreMeant : Type 0
+BatchesAreMeant = (shared : Bool) (had : ℕ → ℕ) (batch : Batch) (s : Session) (es : List Entry) → OutcomesAreMeant batch (steps_mean shared had kind.Batch batch.steps [] s es)

@@ -1,5 +1,5 @@
 -- What a request means: its reply and the session after it, from the session before it and the entries that were used.
-use Rattle.std.specs.Prelude.{ℕ, Bool, true, false, List, [], ◌∷◌, ◌++◌, Option, Some, None, Result, Ok, Err, if◌then◌else◌}
+use Rattle.std.specs.Prelude.{ℕ, Bool, List, [], ◌∷◌, ◌++◌, Option, Some, None, Result, Ok, Err, if◌then◌else◌}
 use Rattle.hrana_stmt.specs.Codes.{error_of}
 use Rattle.hrana_stmt.specs.declared.codes.Code.{Code}
 use Rattle.hrana_stmt.specs.declared.codes.Code.TheVariants as code
@@ -27,7 +27,7 @@ use Rattle.stream_task.specs.declared.texts.StoredText.{StoredText}
 use Rattle.stream_task.specs.declared.table.Plan.{Plan}
 use Rattle.stream_task.specs.declared.table.Plan.TheVariants.{Refuses, Becomes, Adds}
 use Rattle.stream_task.specs.declared.table.Went.{Went}
-use Rattle.stream_task.specs.declared.table.Went.TheVariants.{Waits, Still, Out, Stopped, Short}
+use Rattle.stream_task.specs.declared.table.Went.TheVariants.{Still, Out, Stopped}
 use Rattle.stream_task.specs.declared.work.Kind.{Kind}
 use Rattle.stream_task.specs.declared.work.Kind.TheVariants as kind
 use Rattle.stream_task.specs.declared.work.Running.{Running}

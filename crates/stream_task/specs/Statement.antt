@@ -1,5 +1,5 @@
 -- The parts of a poll of a statement.
-use Rattle.std.specs.Prelude.{◌≡◌, ◌+◌, ◌++◌, ℕ, Bool, false, List, [], ◌∷◌, Option, Some, None}
+use Rattle.std.specs.Prelude.{◌≡◌, ◌+◌, ◌++◌, ℕ, Bool, false, [], ◌∷◌, Option, Some, None}
 use Rattle.hrana_value.specs.declared.StreamNo.{StreamNo}
 use Rattle.hrana_stmt.specs.Codes.{error_of}
 use Rattle.hrana_stmt.specs.declared.codes.Code.TheVariants.{Busy}

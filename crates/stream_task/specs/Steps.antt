@@ -1,5 +1,5 @@
 -- The steps of a batch or a sequence, and how far they have come.
-use Rattle.std.specs.Prelude.{◌≡◌, Bool, true, false, not, List, [], ◌∷◌, ◌++◌, drop, length, Option, Some, None, if◌then◌else◌, IsSomeAnd}
+use Rattle.std.specs.Prelude.{◌≡◌, Bool, true, false, not, List, [], ◌∷◌, ◌++◌, drop, length, Option, Some, None, if◌then◌else◌}
 use Rattle.hrana_stmt.specs.declared.statements.Stmt.{Stmt}
 use Rattle.hrana_batch.specs.Conditions.{holds_on}
 use Rattle.hrana_batch.specs.Progress.{Progress}

@@ -21,7 +21,7 @@ mod turns;
 mod work;
 
 pub use laws::{
-    each_poll_leaves_the_meaning, each_reply_is_meant, replies_stand_in_order,
+    batches_are_meant, each_poll_leaves_the_meaning, each_reply_is_meant, replies_stand_in_order,
     shut_streams_add_nothing,
 };
 pub use session::{Cause, TxnState};

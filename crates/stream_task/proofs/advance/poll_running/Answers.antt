@@ -1,4 +1,4 @@
-use Rattle.stream_task.proofs.TodoLemmas.{LeavesAs, leaves_as}
+use Rattle.stream_task.proofs.TodoLemmas.{leaves_as}
 use Rattle.stream_task.proofs.AdvanceLemmas.{adds_more, running_polls, agrees_left}
 use Rattle.stream_task.proofs.advance.poll_running.Goals as goal
 

@@ -1,5 +1,5 @@
-use Rattle.std.proofs.Common.{All, length, sym, ◌∙◌, ap, map, subst}
-use Rattle.stream_task.specs.Doing.{IsWithin, step_at}
+use Rattle.std.proofs.Common.{All, length, sym, ◌∙◌, subst}
+use Rattle.stream_task.specs.Doing.{IsWithin}
 use Rattle.stream_task.proofs.StepLemmas.{within_order, names_earlier}
 use Rattle.stream_task.proofs.cutting.sequence_of_text.Goals as goal
 

@@ -6,32 +6,32 @@ pub returns-in-Taken-clause-adds : goal.returns-in-Taken-clause-adds
 returns-in-Taken-clause-adds g c =
     adds_ran g.E.Engine.SHARED _ _ _ _ _ _ _ _ _ _ _ _ _ _ _ _ _ _ (sym c.take_turn.ensures.turn ∙ c.in-Taken.is) c.run_row.ensures.runs
     (ran_facts g.E.Engine.SHARED _ _ _ _ _ c.args.stream _ _ _ _ _ _ _ _ _ _ c.args.row _ g.met.E.Engine.writes
-        (record { row = c.requires.row; agrees = c.requires.agrees; below = c.requires.below; writers = c.requires.writers; quiet = c.requires.quiet })
-        (sym c.take_turn.ensures.turn ∙ c.in-Taken.is) c.take_turn.ensures.table c.run_row.ensures.runs)
+    (record { row = c.requires.row; agrees = c.requires.agrees; below = c.requires.below; writers = c.requires.writers; quiet = c.requires.quiet })
+    (sym c.take_turn.ensures.turn ∙ c.in-Taken.is) c.take_turn.ensures.table c.run_row.ensures.runs)
 
 pub returns-in-Taken-clause-agrees : goal.returns-in-Taken-clause-agrees
 returns-in-Taken-clause-agrees g c =
     (ran_facts g.E.Engine.SHARED _ _ _ _ _ c.args.stream _ _ _ _ _ _ _ _ _ _ c.args.row _ g.met.E.Engine.writes
-        (record { row = c.requires.row; agrees = c.requires.agrees; below = c.requires.below; writers = c.requires.writers; quiet = c.requires.quiet })
-        (sym c.take_turn.ensures.turn ∙ c.in-Taken.is) c.take_turn.ensures.table c.run_row.ensures.runs).agrees
+    (record { row = c.requires.row; agrees = c.requires.agrees; below = c.requires.below; writers = c.requires.writers; quiet = c.requires.quiet })
+    (sym c.take_turn.ensures.turn ∙ c.in-Taken.is) c.take_turn.ensures.table c.run_row.ensures.runs).agrees
 
 pub returns-in-Taken-clause-below : goal.returns-in-Taken-clause-below
 returns-in-Taken-clause-below g c =
     (ran_facts g.E.Engine.SHARED _ _ _ _ _ c.args.stream _ _ _ _ _ _ _ _ _ _ c.args.row _ g.met.E.Engine.writes
-        (record { row = c.requires.row; agrees = c.requires.agrees; below = c.requires.below; writers = c.requires.writers; quiet = c.requires.quiet })
-        (sym c.take_turn.ensures.turn ∙ c.in-Taken.is) c.take_turn.ensures.table c.run_row.ensures.runs).below
+    (record { row = c.requires.row; agrees = c.requires.agrees; below = c.requires.below; writers = c.requires.writers; quiet = c.requires.quiet })
+    (sym c.take_turn.ensures.turn ∙ c.in-Taken.is) c.take_turn.ensures.table c.run_row.ensures.runs).below
 
 pub returns-in-Taken-clause-writers : goal.returns-in-Taken-clause-writers
 returns-in-Taken-clause-writers g c =
     (ran_facts g.E.Engine.SHARED _ _ _ _ _ c.args.stream _ _ _ _ _ _ _ _ _ _ c.args.row _ g.met.E.Engine.writes
-        (record { row = c.requires.row; agrees = c.requires.agrees; below = c.requires.below; writers = c.requires.writers; quiet = c.requires.quiet })
-        (sym c.take_turn.ensures.turn ∙ c.in-Taken.is) c.take_turn.ensures.table c.run_row.ensures.runs).writers
+    (record { row = c.requires.row; agrees = c.requires.agrees; below = c.requires.below; writers = c.requires.writers; quiet = c.requires.quiet })
+    (sym c.take_turn.ensures.turn ∙ c.in-Taken.is) c.take_turn.ensures.table c.run_row.ensures.runs).writers
 
 pub returns-in-Taken-clause-one : goal.returns-in-Taken-clause-one
 returns-in-Taken-clause-one g c =
     (ran_facts g.E.Engine.SHARED _ _ _ _ _ c.args.stream _ _ _ _ _ _ _ _ _ _ c.args.row _ g.met.E.Engine.writes
-        (record { row = c.requires.row; agrees = c.requires.agrees; below = c.requires.below; writers = c.requires.writers; quiet = c.requires.quiet })
-        (sym c.take_turn.ensures.turn ∙ c.in-Taken.is) c.take_turn.ensures.table c.run_row.ensures.runs).one
+    (record { row = c.requires.row; agrees = c.requires.agrees; below = c.requires.below; writers = c.requires.writers; quiet = c.requires.quiet })
+    (sym c.take_turn.ensures.turn ∙ c.in-Taken.is) c.take_turn.ensures.table c.run_row.ensures.runs).one
 
 pub returns-in-Denied-clause-adds : goal.returns-in-Denied-clause-adds
 returns-in-Denied-clause-adds g c =

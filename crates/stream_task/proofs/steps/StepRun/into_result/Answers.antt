@@ -1,4 +1,4 @@
-use Rattle.std.proofs.Common.{sym, ap, ◌∙◌}
+use Rattle.std.proofs.Common.{ap, ◌∙◌}
 use Rattle.stream_task.specs.Steps.{Steps}
 use Rattle.stream_task.proofs.StepLemmas.{none_left}
 use Rattle.stream_task.proofs.steps.StepRun.into_result.Goals as goal

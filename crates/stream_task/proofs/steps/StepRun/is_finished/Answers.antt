@@ -1,4 +1,4 @@
-use Rattle.std.proofs.Common.{◌≡◌, IsTrue, false, [], rules}
+use Rattle.std.proofs.Common.{rules}
 use Rattle.stream_task.proofs.StepLemmas.{unfinished}
 use Rattle.stream_task.proofs.steps.StepRun.is_finished.Goals as goal
 

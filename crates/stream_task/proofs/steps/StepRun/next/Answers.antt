@@ -1,5 +1,5 @@
 use Rattle.std.proofs.Common.{subst}
-use Rattle.stream_task.specs.Steps.{Steps, NextIn, steps_in}
+use Rattle.stream_task.specs.Steps.{Steps, NextIn}
 use Rattle.stream_task.proofs.StepLemmas.{next_in}
 use Rattle.stream_task.proofs.steps.StepRun.next.Goals as goal
 

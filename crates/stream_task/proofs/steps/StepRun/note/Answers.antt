@@ -1,5 +1,3 @@
-use Rattle.std.proofs.Common.{subst, ◌≡◌}
-use Rattle.stream_task.specs.Steps.{Steps, noted}
 use Rattle.stream_task.proofs.StepLemmas.{note_is}
 use Rattle.stream_task.proofs.steps.StepRun.note.Goals as goal
 
