@@ -1,16 +1,16 @@
 -- What a call of one stream leaves of what the streams, the table and the engine agree on.
-use Rattle.std.proofs.Common.{◌≡◌, ◌≢◌, ◌≤◌, ◌<◌, ◌+◌, ◌⊎◌, ◌||◌, ◌&&◌, ◌↔◌, ℕ, Bool, true, false, cond, not, Option, Some, None, IsTrue, refl, sym, ap, ◌∙◌, subst, arith, inl, inr}
+use Rattle.std.proofs.Common.{◌≡◌, ◌≢◌, ◌≤◌, ◌+◌, ◌⊎◌, ◌||◌, ◌&&◌, ℕ, Bool, true, false, cond, not, Option, Some, None, IsTrue, refl, sym, ap, ◌∙◌, subst, arith, inl, inr}
 use Rattle.std.specs.Option.{IsSome}
 use Rattle.std.proofs.lemmas.Bool.{cases_Bool, cases_eq}
 use Rattle.hrana_value.specs.declared.StreamNo.{StreamNo}
 use Rattle.serial_order.specs.Serial.{Meaning}
 use Rattle.sql_text.specs.declared.class.Class.{Class}
 use Rattle.sql_text.specs.declared.class.Class.TheVariants as class
-use Rattle.txn_table.specs.Turns.{Turns, no_turns, has, placed, without, same_stream, given_back, with_place, after_loss}
-use Rattle.txn_table.proofs.StreamLemmas.{true_not_false, or_true, one_of_same, stream_one, still_placed, has_without}
+use Rattle.txn_table.specs.Turns.{Turns, no_turns, has, same_stream, given_back, with_place, after_loss}
+use Rattle.txn_table.proofs.StreamLemmas.{true_not_false, still_placed, has_without}
 use Rattle.engine_core.specs.Engine.{is_read, is_write, is_refusal, IsReadOrWrite}
 use Rattle.engine_core.specs.Noted.{Noted}
-use Rattle.engine_core.specs.Transactions.{Lives, View, NoneLive, NoOtherWriter, SameLive, Became, StartsAt, MayCommit}
+use Rattle.engine_core.specs.Transactions.{Lives, View, NoneLive, NoOtherWriter, SameLive, Became}
 use Rattle.engine_core.specs.declared.statement.BoundStmt.{BoundStmt}
 use Rattle.engine_core.specs.declared.entries.Answer.{Answer}
 use Rattle.engine_core.specs.declared.entries.How.TheVariants as how
@@ -19,8 +19,8 @@ use Rattle.engine_core.specs.declared.entries.Entry.{Entry}
 use Rattle.engine_core.specs.declared.entries.Entry.TheVariants as entry
 use Rattle.stream_task.specs.Adds.{AddsOne, seen_in, undone_of}
 use Rattle.stream_task.specs.Effect.{Effects, RanAlone}
-use Rattle.stream_task.specs.Moved.{Moved, ComesFrom, AgreesAs, WritesIn, ReadsIn, AreBelow, WritesByTurn, LivesByTurn, HasOne, StaysOne, turn_by, version_by}
-use Rattle.stream_task.specs.Polls.{Task, Polls, Ends, is_pending}
+use Rattle.stream_task.specs.Moved.{ComesFrom, AgreesAs, WritesIn, ReadsIn, AreBelow, WritesByTurn, StaysOne, turn_by, version_by}
+use Rattle.stream_task.specs.Polls.{Task}
 use Rattle.stream_task.specs.Session.{is_shut, unit_of}
 use Rattle.stream_task.specs.Table.{wrote}
 use Rattle.stream_task.specs.Together.{States, Put, numbered, AgreesAt, is_open, is_writing, unit_at, BeganBy, IsOwned, Together, TurnIsWriters, LiveAreOpen, MayPoll, HasPolled, HasEnded}
@@ -29,7 +29,7 @@ use Rattle.stream_task.specs.declared.session.TxnState.TheVariants.{Auto, Deferr
 use Rattle.stream_task.specs.declared.task.Poll.{Poll}
 use Rattle.stream_task.specs.declared.task.Stepped.{Stepped}
 use Rattle.stream_task.proofs.TurnLemmas.{none_some, some_one, given_other, given_back_is}
-use Rattle.stream_task.proofs.OriginLemmas.{some_is, own_lives}
+use Rattle.stream_task.proofs.OriginLemmas.{own_lives}
 use Rattle.stream_task.proofs.GoesLemmas.{unit_by, IsOwn, Goes, goes_polls, goes_undone}
 
 -- ---- what an engine says of its statements
