@@ -12,7 +12,7 @@ use serde_json::Value as Json;
 use std::alloc::Global;
 use std::test::Fail;
 use stream_requests::{Ask, Reply};
-use stream_task::{Poll, Stepped};
+use stream_task::{Cause, Poll, Stepped, TxnState};
 use ws_messages::{Kind, ServerMsg, encode_server};
 
 /// What is done to a stream. All but the last two ask it something, and then poll it once.
@@ -157,6 +157,21 @@ fn act<E: Engine + Drop>(
     Ok(desk.poll(place))
 }
 
+/// What came of calls of the first stream, in brief.
+fn told_of<E: Engine + Drop>(
+    alloc: Global,
+    desk: &mut Desk<E>,
+    calls: &[Call],
+) -> Result<String, NoMemory> {
+    let mut text = String::new(alloc);
+    for call in calls {
+        let told = brief(alloc, act(alloc, desk, 0, *call)?)?;
+        text.push_str(told.as_str())?;
+        text.push_str(" ")?;
+    }
+    Ok(text)
+}
+
 /// Three streams over an engine some of whose calls fail.
 fn three(alloc: Global, fail_at: &[u64]) -> Result<Desk<Failing<MemoryKeeper>>, NoMemory> {
     let engine = Failing::new(alloc, MemoryKeeper::new(alloc)?, fail_at)?;
@@ -260,47 +275,47 @@ fn streams_take_turns(rt: HostRuntime) -> Result<(), Fail> {
     Ok(())
 }
 
-// Where each call of the engine fails once: what came of four statements, and the entries.
+// Where each call of the engine fails once: what came of four statements, the state then, and the entries.
 #[test]
 fn each_call_of_the_engine_fails_once(rt: HostRuntime) -> Result<(), Fail> {
     let alloc = rt.alloc();
-    for (at, wanted, noted) in [
+    let broken = TxnState::Dead(Cause::Fault);
+    for (at, wanted, state, noted) in [
         (
             1,
-            ["ENGINE_FAULT", "done", "NO_TABLE", "done"],
+            "ENGINE_FAULT done NO_TABLE done ",
+            TxnState::Auto,
             "failed began refused committed ",
         ),
         (
             2,
-            ["done", "ENGINE_FAULT", "done", "NO_TXN"],
+            "done ENGINE_FAULT done NO_TXN ",
+            TxnState::Auto,
             "wrote failed wrote ",
         ),
         (
             3,
-            ["done", "done", "ENGINE_FAULT", "STREAM_LOST"],
+            "done done ENGINE_FAULT STREAM_LOST ",
+            broken,
             "wrote began lost-unit ",
         ),
         (
             4,
-            ["done", "done", "done", "ENGINE_FAULT"],
+            "done done done ENGINE_FAULT ",
+            broken,
             "wrote began ran lost-unit ",
         ),
         (
             5,
-            ["done", "done", "done", "done"],
+            "done done done done ",
+            TxnState::Auto,
             "wrote began ran committed ",
         ),
     ] {
         let mut desk = three(alloc, &[at])?;
-        let is = [
-            brief(alloc, act(alloc, &mut desk, 0, TABLE)?)?,
-            brief(alloc, act(alloc, &mut desk, 0, IMMEDIATE)?)?,
-            brief(alloc, act(alloc, &mut desk, 0, ADD_ONE)?)?,
-            brief(alloc, act(alloc, &mut desk, 0, COMMIT)?)?,
-        ];
-        for (text, want) in is.iter().zip(wanted) {
-            assert_eq!(rt; text.as_str(), want, "where call {at} fails");
-        }
+        let told = told_of(alloc, &mut desk, &[TABLE, IMMEDIATE, ADD_ONE, COMMIT])?;
+        assert_eq!(rt; told.as_str(), wanted, "where call {at} fails");
+        assert_eq!(rt; desk.state(0), Some(state), "where call {at} fails");
         let entries = words(alloc, desk.into_entries().as_slice())?;
         assert_eq!(rt; entries.as_str(), noted, "where call {at} fails");
     }
