@@ -5,6 +5,7 @@
 
 #[cfg(test)]
 mod batons;
+pub mod desk;
 #[cfg(test)]
 mod dialect;
 #[cfg(test)]
@@ -15,5 +16,13 @@ mod keeper;
 mod outside;
 #[cfg(test)]
 mod replay;
+#[cfg(test)]
+mod requests;
+#[cfg(test)]
+mod sql_texts;
+#[cfg(test)]
+mod statements;
+#[cfg(test)]
+mod streams;
 #[cfg(test)]
 mod turns;

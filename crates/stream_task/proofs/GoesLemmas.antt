@@ -1,5 +1,5 @@
 -- What the entry of a poll is to the open unit of its stream, and what it leaves of the stream's state.
-use Rattle.std.proofs.Common.{◌≡◌, ◌≢◌, ◌≤◌, ◌<◌, ◌⊎◌, ℕ, Bool, true, false, not, List, [], ◌∷◌, Option, Some, None, Result, Ok, Err, refl, sym, ap, ◌∙◌, subst, arith, inl, inr}
+use Rattle.std.proofs.Common.{◌≡◌, ℕ, Bool, true, false, List, [], ◌∷◌, Option, Some, None, Result, Ok, Err, refl, sym, ap, ◌∙◌, subst, arith, inl, inr}
 use Rattle.hrana_value.specs.declared.StreamNo.{StreamNo}
 use Rattle.hrana_stmt.specs.declared.codes.Code.{Code}
 use Rattle.hrana_stmt.specs.declared.statements.Stmt.{Stmt}
@@ -17,11 +17,11 @@ use Rattle.engine_core.specs.declared.entries.Entry.{Entry}
 use Rattle.engine_core.specs.declared.entries.Entry.TheVariants as entry
 use Rattle.stream_task.specs.Session.{is_shut, unit_of}
 use Rattle.stream_task.specs.Table.{Seen, plan, MayAdd, MayBeAlone, MayBegin, MayRun, MayCommit, MayUpgrade, takes, takes_alone, takes_begun, takes_ran, takes_upgrade, takes_ended, begun_by, state_after, left_by}
-use Rattle.stream_task.specs.Adds.{PollsStatement, ReadyPolls, PlanPolls, RowPolls, Acts, IsHeld, Falls, FallsAfter, undone_of}
+use Rattle.stream_task.specs.Adds.{PollsStatement, ReadyPolls, PlanPolls, RowPolls, Falls, undone_of}
 use Rattle.stream_task.specs.Checks.{ready_of}
 use Rattle.stream_task.specs.Doing.{Session}
-use Rattle.stream_task.specs.Advance.{Does, Answers, PollsRunning, Closes, FallsEarly, PollsWork, todo_of, state_left}
-use Rattle.stream_task.specs.Polls.{Task, Polls, PollsAsks, PollsFirst, IsIdle}
+use Rattle.stream_task.specs.Advance.{Does, PollsWork, todo_of, state_left}
+use Rattle.stream_task.specs.Polls.{Task, Polls, PollsAsks}
 use Rattle.stream_task.specs.Together.{unit_at, is_open, BeganBy}
 use Rattle.stream_task.specs.declared.session.TxnState.{TxnState}
 use Rattle.stream_task.specs.declared.session.TxnState.TheVariants.{Auto, Deferred, Reading, Writing, Dead, Closed}
@@ -41,7 +41,7 @@ use Rattle.stream_task.specs.declared.task.Poll.{Poll}
 use Rattle.stream_task.specs.declared.task.Stepped.{Stepped}
 use Rattle.stream_task.proofs.TurnLemmas.{some_one, none_some}
 use Rattle.stream_task.proofs.OriginLemmas.{Stands, stands}
-use Rattle.stream_task.proofs.TodoLemmas.{Answered, StartsTodo, todo_starts, LeavesAs, leaves_as}
+use Rattle.stream_task.proofs.TodoLemmas.{Answered, StartsTodo, todo_starts, leaves_as}
 
 -- the open unit after an entry
 abbrev pub unit_by : Option Entry → Option ℕ → Option ℕ

@@ -1,16 +1,16 @@
 -- What a call of one stream leaves of what the streams, the table and the engine agree on.
-use Rattle.std.proofs.Common.{◌≡◌, ◌≢◌, ◌≤◌, ◌<◌, ◌+◌, ◌⊎◌, ◌||◌, ◌&&◌, ◌↔◌, ℕ, Bool, true, false, cond, not, Option, Some, None, IsTrue, refl, sym, ap, ◌∙◌, subst, arith, inl, inr}
+use Rattle.std.proofs.Common.{◌≡◌, ◌≢◌, ◌≤◌, ◌+◌, ◌⊎◌, ◌||◌, ◌&&◌, ℕ, Bool, true, false, cond, not, Option, Some, None, IsTrue, refl, sym, ap, ◌∙◌, subst, arith, inl, inr}
 use Rattle.std.specs.Option.{IsSome}
 use Rattle.std.proofs.lemmas.Bool.{cases_Bool, cases_eq}
 use Rattle.hrana_value.specs.declared.StreamNo.{StreamNo}
 use Rattle.serial_order.specs.Serial.{Meaning}
 use Rattle.sql_text.specs.declared.class.Class.{Class}
 use Rattle.sql_text.specs.declared.class.Class.TheVariants as class
-use Rattle.txn_table.specs.Turns.{Turns, no_turns, has, placed, without, same_stream, given_back, with_place, after_loss}
-use Rattle.txn_table.proofs.StreamLemmas.{true_not_false, or_true, one_of_same, stream_one, still_placed, has_without}
+use Rattle.txn_table.specs.Turns.{Turns, no_turns, has, same_stream, given_back, with_place, after_loss}
+use Rattle.txn_table.proofs.StreamLemmas.{true_not_false, still_placed, has_without}
 use Rattle.engine_core.specs.Engine.{is_read, is_write, is_refusal, IsReadOrWrite}
 use Rattle.engine_core.specs.Noted.{Noted}
-use Rattle.engine_core.specs.Transactions.{Lives, View, NoneLive, NoOtherWriter, SameLive, Became, StartsAt, MayCommit}
+use Rattle.engine_core.specs.Transactions.{Lives, View, NoneLive, NoOtherWriter, SameLive, Became}
 use Rattle.engine_core.specs.declared.statement.BoundStmt.{BoundStmt}
 use Rattle.engine_core.specs.declared.entries.Answer.{Answer}
 use Rattle.engine_core.specs.declared.entries.How.TheVariants as how
@@ -19,8 +19,8 @@ use Rattle.engine_core.specs.declared.entries.Entry.{Entry}
 use Rattle.engine_core.specs.declared.entries.Entry.TheVariants as entry
 use Rattle.stream_task.specs.Adds.{AddsOne, seen_in, undone_of}
 use Rattle.stream_task.specs.Effect.{Effects, RanAlone}
-use Rattle.stream_task.specs.Moved.{Moved, ComesFrom, AgreesAs, WritesIn, ReadsIn, AreBelow, WritesByTurn, LivesByTurn, HasOne, StaysOne, turn_by, version_by}
-use Rattle.stream_task.specs.Polls.{Task, Polls, Ends, is_pending}
+use Rattle.stream_task.specs.Moved.{ComesFrom, AgreesAs, WritesIn, ReadsIn, AreBelow, WritesByTurn, StaysOne, turn_by, version_by}
+use Rattle.stream_task.specs.Polls.{Task}
 use Rattle.stream_task.specs.Session.{is_shut, unit_of}
 use Rattle.stream_task.specs.Table.{wrote}
 use Rattle.stream_task.specs.Together.{States, Put, numbered, AgreesAt, is_open, is_writing, unit_at, BeganBy, IsOwned, Together, TurnIsWriters, LiveAreOpen, MayPoll, HasPolled, HasEnded}
@@ -29,7 +29,7 @@ use Rattle.stream_task.specs.declared.session.TxnState.TheVariants.{Auto, Deferr
 use Rattle.stream_task.specs.declared.task.Poll.{Poll}
 use Rattle.stream_task.specs.declared.task.Stepped.{Stepped}
 use Rattle.stream_task.proofs.TurnLemmas.{none_some, some_one, given_other, given_back_is}
-use Rattle.stream_task.proofs.OriginLemmas.{some_is, own_lives}
+use Rattle.stream_task.proofs.OriginLemmas.{own_lives}
 use Rattle.stream_task.proofs.GoesLemmas.{unit_by, IsOwn, Goes, goes_polls, goes_undone}
 
 -- ---- what an engine says of its statements
@@ -468,13 +468,13 @@ together_after {D} told shared w m db live next t db' live' next' t' s state now
     let grows : t.version ≤ t'.version = subst (λ v. t.version ≤ v) (sym d.version) (version_grows added t.version) in
     record {
       agree = put_each (λ k x. AgreesAt told db' live' t' k x) states states' s.0 now put own
-        (λ k ne. agrees_other told w m db live next t db' live' t' s (unit_of state) k (states k) added c d (apart_numbers s k ne) g.own (λ u e. other_own states s state k u at h.apart ne e) (h.began k) (h.agree k));
+          (λ k ne. agrees_other told w m db live next t db' live' t' s (unit_of state) k (states k) added c d (apart_numbers s k ne) g.own (λ u e. other_own states s state k u at h.apart ne e) (h.began k) (h.agree k));
       places = put_each (λ k x. is_open x ≡ true → IsTrue (has (numbered k) t'.reserved)) states states' s.0 now put
-        (λ e. subst (λ r. IsTrue (has s r)) (sym d.reserved) (h.places s.0 (ap is_open at ∙ g.opened e)))
-        (λ k ne e. subst (λ r. IsTrue (has (numbered k) r)) (sym d.reserved) (h.places k e));
+          (λ e. subst (λ r. IsTrue (has s r)) (sym d.reserved) (h.places s.0 (ap is_open at ∙ g.opened e)))
+          (λ k ne e. subst (λ r. IsTrue (has (numbered k) r)) (sym d.reserved) (h.places k e));
       began = put_each (λ k x. BeganBy t'.version x) states states' s.0 now put
-        (began_up t.version t'.version now grows (g.began (subst (λ x. BeganBy t.version x) at (h.began s.0))))
-        (λ k ne. began_up t.version t'.version (states k) grows (h.began k));
+          (began_up t.version t'.version now grows (g.began (subst (λ x. BeganBy t.version x) at (h.began s.0))))
+          (λ k ne. began_up t.version t'.version (states k) grows (h.began k));
       owned = λ u some. elim (lives_after told w m db live next t db' live' t' s (unit_of state) u added d g.own some) [
         | inl e ↦ record { stream = s.0; opened = ap unit_at put.here ∙ g.unit ∙ e }
         | inr old ↦ (let o : IsOwned states u = h.owned u old.1 in record { stream = o.stream; opened = ap unit_at (put.others o.stream (λ e. old.0 (sym (ap unit_at (ap states e ∙ at)) ∙ o.opened))) ∙ o.opened })
@@ -511,11 +511,11 @@ pub polls_together : {X D : Type 0} (told shared : Bool) (m : Meaning D BoundStm
     → Together told shared (db engine') (live engine') t' new.next states'
 polls_together told shared m db live faults engine engine' t t' old new task task' result states states' c h at p put =
     together_after told shared p.adds.writes m (db engine) (live engine) old.next t (db engine') (live engine') new.next t' task.stream task.session.state (Some task'.session.state) p.adds.added states states' c h at
-      (did told m db live faults task.stream engine engine' t t' old new _ _ p.adds)
-      (goes_polls shared (seen_in t old.next) task p.adds.added result task' p.adds.holds)
-      put
-      (subst (λ x. AgreesAs told (db engine') (live engine') t' x task'.session.state) p.stream p.agrees)
-      p.below p.writers p.one
+    (did told m db live faults task.stream engine engine' t t' old new _ _ p.adds)
+    (goes_polls shared (seen_in t old.next) task p.adds.added result task' p.adds.holds)
+    put
+    (subst (λ x. AgreesAs told (db engine') (live engine') t' x task'.session.state) p.stream p.agrees)
+    p.below p.writers p.one
 
 shut_off : {D : Type 0} (told : Bool) (db : D) (live : Lives D) (t : Turns) (n : ℕ) (x : Option TxnState) → is_open x ≡ false → t.turn ≢ Some (numbered n) → AgreesAt told db live t n x
 shut_off told db live t n None e a = a
@@ -582,9 +582,9 @@ ends_together told shared m db live faults engine engine' t t' old new task why 
     let off : between.turn ≢ Some s = off_undone told a.writes (db engine) (live engine) t between s why state own (a.moved.turn ∙ ap (λ x. turn_by s a.writes x t.turn) a.holds) in
     let same : t'.turn ≡ between.turn = ap (λ (x : Turns). x.turn) p.ends.lost ∙ given_other between.turn s off in
     let after : Together told shared (db engine') (live engine') between new.next states' =
-        together_after told shared a.writes m (db engine) (live engine) old.next t (db engine') (live engine') new.next between s state now a.added states states' c h at
-          (did told m db live faults s engine engine' t between old new _ _ a)
-          (subst (λ x. Goes t.version state x now) (sym a.holds) (goes_undone t.version why state now (shut_unit now shut) shut (shut_began t.version now shut)))
-          put (shut_off told (db engine') (live engine') between s.0 now shut off) p.below (λ e. p.writers (same ∙ e)) (λ alone one. ((p.one alone one).0, λ e. (p.one alone one).1 (same ∙ e))) in
+    together_after told shared a.writes m (db engine) (live engine) old.next t (db engine') (live engine') new.next between s state now a.added states states' c h at
+    (did told m db live faults s engine engine' t between old new _ _ a)
+    (subst (λ x. Goes t.version state x now) (sym a.holds) (goes_undone t.version why state now (shut_unit now shut) shut (shut_began t.version now shut)))
+    put (shut_off told (db engine') (live engine') between s.0 now shut off) p.below (λ e. p.writers (same ∙ e)) (λ alone one. ((p.one alone one).0, λ e. (p.one alone one).1 (same ∙ e))) in
     subst (λ x. Together told shared (db engine') (live engine') x new.next states') (sym p.ends.lost)
-      (lost_together told shared (db engine') (live engine') between new.next states' s after (ap is_open put.here ∙ shut) off)
+    (lost_together told shared (db engine') (live engine') between new.next states' s after (ap is_open put.here ∙ shut) off)

@@ -26,7 +26,7 @@ pub use laws::{
 };
 pub use session::{Cause, TxnState};
 pub use task::{Poll, Stepped, StreamTask, Task};
+pub use texts::{StoredText, StoredTexts};
 pub use together::{
     a_stream_joins, ends_keep_agreement, polls_keep_agreement, streams_agree, streams_begin,
 };
-pub use texts::{StoredText, StoredTexts};

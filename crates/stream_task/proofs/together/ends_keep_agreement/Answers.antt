@@ -1,4 +1,4 @@
-use Rattle.stream_task.proofs.TogetherLemmas.{Classes, ends_together}
+use Rattle.stream_task.proofs.TogetherLemmas.{ends_together}
 use Rattle.stream_task.proofs.together.ends_keep_agreement.Goals as goal
 
 pub returns : goal.returns

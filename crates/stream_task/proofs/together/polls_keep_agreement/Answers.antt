@@ -1,4 +1,4 @@
-use Rattle.stream_task.proofs.TogetherLemmas.{Classes, polls_together}
+use Rattle.stream_task.proofs.TogetherLemmas.{polls_together}
 use Rattle.stream_task.proofs.together.polls_keep_agreement.Goals as goal
 
 pub returns : goal.returns
