@@ -17,12 +17,6 @@ mod outside;
 #[cfg(test)]
 mod replay;
 #[cfg(test)]
-mod requests;
-#[cfg(test)]
-mod sql_texts;
-#[cfg(test)]
-mod statements;
-#[cfg(test)]
 mod streams;
 #[cfg(test)]
 mod turns;

@@ -32,9 +32,8 @@ fn answer(alloc: Global, bytes: &[u8]) -> Result<Txt, BodyFail> {
 
 // The decline of the first of two requests, of which the second is read.
 fn first_declined(alloc: Global, request: &str) -> Option<Decline> {
-    let Ok(text) = format!(in alloc;
-        "{{\"requests\":[{request},{{\"type\":\"get_autocommit\"}}]}}"
-    ) else {
+    let Ok(text) = format!(in alloc; "{{\"requests\":[{request},{{\"type\":\"get_autocommit\"}}]}}")
+    else {
         return None;
     };
     let Ok(body) = decode_pipeline(alloc, text.as_bytes()) else {
@@ -114,10 +113,7 @@ fn declined_requests_stand_in_their_places(rt: HostRuntime) {
             Decline::Unknown,
         ),
         (r#"{"type":"close_cursor"}"#, Decline::Unknown),
-        (
-            r#"{"type":"fetch_cursor","max_count":1}"#,
-            Decline::Unknown,
-        ),
+        (r#"{"type":"fetch_cursor","max_count":1}"#, Decline::Unknown),
         (r#"{"type":"execute"}"#, Decline::Shape),
         (r#"{"type":"execute","stmt":{}}"#, Decline::BothSql),
         (
@@ -138,7 +134,11 @@ fn declined_requests_stand_in_their_places(rt: HostRuntime) {
         ),
     ];
     for (request, want) in cases {
-        assert_eq!(rt; first_declined(rt.alloc(), request), Some(want), "at {request}");
+        assert_eq!(rt;
+            first_declined(rt.alloc(), request),
+            Some(want),
+            "at {request}"
+        );
     }
 }
 
@@ -176,7 +176,11 @@ fn too_many_requests_are_refused(rt: HostRuntime) {
     let cases = [
         ("{", MAX_PIPELINE_ASKS, None),
         ("{", MAX_PIPELINE_ASKS + 1, Some(BodyFail::TooMany)),
-        ("{\"baton\":5,", MAX_PIPELINE_ASKS + 1, Some(BodyFail::Shape)),
+        (
+            "{\"baton\":5,",
+            MAX_PIPELINE_ASKS + 1,
+            Some(BodyFail::Shape),
+        ),
     ];
     for (start, count, want) in cases {
         let text = many(alloc, start, count).expect(&rt, "there is memory");
