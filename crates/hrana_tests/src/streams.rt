@@ -5,7 +5,7 @@ ghost use Rattle.stream_task.specs.Doing.{MayBeAsked};
 use crate::desk::Desk;
 use engine_core::{Answer, Engine, Entry, Failing, How, NoMemory, Undo};
 use hrana_batch::batch_of_json;
-use hrana_stmt::{NamedArgs, SqlRef, Stmt};
+use hrana_stmt::{NamedArgs, SqlRef, Stmt, WireError};
 use hrana_value::{StreamNo, Txt, Values};
 use memory_keeper::MemoryKeeper;
 use serde_json::Value as Json;
@@ -132,10 +132,13 @@ fn told(alloc: Global, answer: Poll<Stepped>) -> Result<Txt, NoMemory> {
 /// The code of an error that was replied, or a word.
 fn brief(alloc: Global, answer: Poll<Stepped>) -> Result<Txt, NoMemory> {
     match answer {
-        Poll::Ready(Stepped::Replied(Reply::Failed(error))) => match error.code {
-            Some(code) => Ok(code),
-            None => Ok(error.message),
-        },
+        Poll::Ready(Stepped::Replied(Reply::Failed(error))) => {
+            let WireError { message, code } = error;
+            match code {
+                Some(code) => Ok(code),
+                None => Ok(message),
+            }
+        }
         Poll::Ready(Stepped::Replied(_)) => Txt::new(alloc, "done"),
         answer => told(alloc, answer),
     }
