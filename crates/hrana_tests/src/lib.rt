@@ -1,11 +1,10 @@
-//! Tests of the public calls of engines, keepers, streams and the program, as tables. What the contracts say is proved
+//! Tests of the public calls of engines, keepers, journals and the program, as tables. What the contracts say is proved
 //! where it stands, so these are of what no clause says: that calls succeed where there is memory, texts that come from
 //! outside, and what goes on after a failure.
 #![tactic(auto)]
 
 #[cfg(test)]
 mod batons;
-pub mod desk;
 #[cfg(test)]
 mod dialect;
 #[cfg(test)]
@@ -16,7 +15,5 @@ mod keeper;
 mod outside;
 #[cfg(test)]
 mod replay;
-#[cfg(test)]
-mod streams;
 #[cfg(test)]
 mod turns;

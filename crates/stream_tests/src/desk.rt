@@ -23,7 +23,7 @@ pub struct Desk<E: Engine + Drop> {
 
 impl<E: Engine + Drop> Model for Desk<E> {
     ghost use Rattle.std.specs.Prelude.{ℕ, length};
-    ghost use Rattle.hrana_tests.specs.Desk.{IsSound};
+    ghost use Rattle.stream_tests.specs.Desk.{IsSound};
 
     ghost Value = { ℕ };
 

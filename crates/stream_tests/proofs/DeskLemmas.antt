@@ -20,7 +20,7 @@ use Rattle.stream_task.specs.declared.session.TxnState.TheVariants.{Auto, Dead}
 use Rattle.stream_task.specs.declared.task.Poll.{Poll}
 use Rattle.stream_task.specs.declared.task.Stepped.{Stepped}
 use Rattle.stream_task.proofs.TogetherLemmas.{Classes, may_poll, begins_together, joins_together, polls_together, ends_together}
-use Rattle.hrana_tests.specs.Desk.{states_of, AreNumbered, IsSound}
+use Rattle.stream_tests.specs.Desk.{states_of, AreNumbered, IsSound}
 
 none_some : {X : Type 0} {x : X} → ◌≡◌ {A = Option X} None (Some x) → ⊥
 none_some e = cc

@@ -1,6 +1,6 @@
 use Rattle.std.proofs.Common.{◌≡◌, ◌<◌, length, refl, ap, ◌∙◌, arith}
-use Rattle.hrana_tests.proofs.DeskLemmas.{sound_add}
-use Rattle.hrana_tests.proofs.desk.Desk.ask.Goals as goal
+use Rattle.stream_tests.proofs.DeskLemmas.{sound_add}
+use Rattle.stream_tests.proofs.desk.Desk.ask.Goals as goal
 
 pub invariant_of-self : goal.invariant_of-self
 invariant_of-self g c =

@@ -1,6 +1,6 @@
 use Rattle.std.proofs.Common.{◌≡◌, ◌<◌, length, refl, ap, ◌∙◌, arith}
-use Rattle.hrana_tests.proofs.DeskLemmas.{place_may, sound_ended}
-use Rattle.hrana_tests.proofs.desk.Desk.end.Goals as goal
+use Rattle.stream_tests.proofs.DeskLemmas.{place_may, sound_ended}
+use Rattle.stream_tests.proofs.desk.Desk.end.Goals as goal
 
 pub end-requires-clause-agrees : goal.end-requires-clause-agrees
 end-requires-clause-agrees g c =

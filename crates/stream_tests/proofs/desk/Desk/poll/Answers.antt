@@ -1,6 +1,6 @@
 use Rattle.std.proofs.Common.{◌≡◌, ◌<◌, length, refl, ap, ◌∙◌, arith}
-use Rattle.hrana_tests.proofs.DeskLemmas.{place_may, sound_polled}
-use Rattle.hrana_tests.proofs.desk.Desk.poll.Goals as goal
+use Rattle.stream_tests.proofs.DeskLemmas.{place_may, sound_polled}
+use Rattle.stream_tests.proofs.desk.Desk.poll.Goals as goal
 
 pub poll-requires-clause-agrees : goal.poll-requires-clause-agrees
 poll-requires-clause-agrees g c =

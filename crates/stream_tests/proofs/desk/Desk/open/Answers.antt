@@ -1,8 +1,8 @@
 use Rattle.std.proofs.Common.{◌≡◌, ◌<◌, length, refl, ap, ◌∙◌, arith}
 use Rattle.hrana_value.specs.declared.StreamNo.{StreamNo}
 use Rattle.stream_task.specs.Together.{numbered}
-use Rattle.hrana_tests.proofs.DeskLemmas.{sound_open}
-use Rattle.hrana_tests.proofs.desk.Desk.open.Goals as goal
+use Rattle.stream_tests.proofs.DeskLemmas.{sound_open}
+use Rattle.stream_tests.proofs.desk.Desk.open.Goals as goal
 
 pub invariant_of-self-2 : goal.invariant_of-self-2
 invariant_of-self-2 g c =
