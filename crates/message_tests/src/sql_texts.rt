@@ -198,26 +198,26 @@ fn arguments_that_stand_need_no_copy(rt: HostRuntime) {
 }
 
 // What a text is prepared as with the integers from 1 to a number as its positional arguments.
-fn prepared_with(alloc: Global, sql: &str, count: i64) -> Result<Prepared, PrepareFail> {
+fn prepared_with(alloc: Global, sql: &str, count: u16) -> Result<Prepared, PrepareFail> {
     let mut args = Values::new(alloc);
-    for number in 1..count + 1 {
-        args.push(Value::Integer(number))?;
+    for before in 0..count {
+        args.push(Value::Integer(i64::from(before) + 1))?;
     }
     prepare(alloc, sql, args.as_slice(), &[])
 }
 
-fn is_prepared(alloc: Global, sql: &str, count: i64, statement: &str, class: Class) -> bool {
+fn is_prepared(alloc: Global, sql: &str, count: u16, statement: &str, class: Class) -> bool {
     let Ok(prepared) = prepared_with(alloc, sql, count) else {
         return false;
     };
-    let mut next = 1;
+    let mut before = 0u16;
     for value in prepared.values.as_slice() {
-        if !matches!(value, Value::Integer(number) if *number == next) {
+        if !matches!(value, Value::Integer(number) if *number == i64::from(before) + 1) {
             return false;
         }
-        next += 1;
+        before = before.saturating_add(1);
     }
-    next == count + 1 && prepared.class == class && prepared.sql.as_str() == statement
+    before == count && prepared.class == class && prepared.sql.as_str() == statement
 }
 
 #[test]
