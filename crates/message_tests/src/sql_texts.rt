@@ -197,11 +197,11 @@ fn arguments_that_stand_need_no_copy(rt: HostRuntime) {
     assert!(rt; !are_bound("SELECT ?, ? 'x", &two, &[]));
 }
 
-// What a text is prepared as with the integers from 1 to a number as its positional arguments.
+// What a text is prepared as with so many integers, from 0, as its positional arguments.
 fn prepared_with(alloc: Global, sql: &str, count: u16) -> Result<Prepared, PrepareFail> {
     let mut args = Values::new(alloc);
-    for before in 0..count {
-        args.push(Value::Integer(i64::from(before) + 1))?;
+    for number in 0..count {
+        args.push(Value::Integer(i64::from(number)))?;
     }
     prepare(alloc, sql, args.as_slice(), &[])
 }
@@ -210,14 +210,14 @@ fn is_prepared(alloc: Global, sql: &str, count: u16, statement: &str, class: Cla
     let Ok(prepared) = prepared_with(alloc, sql, count) else {
         return false;
     };
-    let mut before = 0u16;
+    let mut next = 0u16;
     for value in prepared.values.as_slice() {
-        if !matches!(value, Value::Integer(number) if *number == i64::from(before) + 1) {
+        if !matches!(value, Value::Integer(number) if *number == i64::from(next)) {
             return false;
         }
-        before = before.saturating_add(1);
+        next = next.saturating_add(1);
     }
-    before == count && prepared.class == class && prepared.sql.as_str() == statement
+    next == count && prepared.class == class && prepared.sql.as_str() == statement
 }
 
 #[test]
