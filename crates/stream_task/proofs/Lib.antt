@@ -5,6 +5,7 @@
 --   each_poll_leaves_the_meaning, each_reply_is_meant      laws/, by RequestLemmas over MeansLemmas
 --   replies_stand_in_order, shut_streams_add_nothing       laws/, by TaskLemmas
 --   the laws of together.rt                   together/, by TogetherLemmas over GoesLemmas
+--   the laws of leads.rt                      leads/, by LeadsLaws over MachineLemmas (a state of the machine) and LeadsLemmas (each entry)
 --   batches_are_meant                         laws/, by BatchLemmas
 --   poll_running, advance                     advance/, by AdvanceLemmas over TodoLemmas
 --   StreamTask::end: waits                    task/StreamTask/end, by EndLemmas
@@ -31,3 +32,6 @@ pub mod KeepLemmas
 pub mod AddsLemmas
 pub mod GoesLemmas
 pub mod TogetherLemmas
+pub mod MachineLemmas
+pub mod LeadsLemmas
+pub mod LeadsLaws

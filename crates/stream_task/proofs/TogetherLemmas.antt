@@ -23,7 +23,7 @@ use Rattle.stream_task.specs.Moved.{ComesFrom, AgreesAs, WritesIn, ReadsIn, AreB
 use Rattle.stream_task.specs.Polls.{Task}
 use Rattle.stream_task.specs.Session.{is_shut, unit_of}
 use Rattle.stream_task.specs.Table.{wrote}
-use Rattle.stream_task.specs.Together.{States, Put, numbered, AgreesAt, is_open, is_writing, unit_at, BeganBy, IsOwned, Together, TurnIsWriters, LiveAreOpen, MayPoll, HasPolled, HasEnded}
+use Rattle.stream_task.specs.Together.{States, Put, numbered, AgreesAt, is_open, is_writing, unit_at, BeganBy, IsOwned, Together, TurnIsWriters, LiveAreOpen, IsWriter, IsWritten, WritersAreWriting, NoReaders, MayPoll, HasPolled, HasEnded}
 use Rattle.stream_task.specs.declared.session.TxnState.{TxnState}
 use Rattle.stream_task.specs.declared.session.TxnState.TheVariants.{Auto, Deferred, Reading, Writing, Dead, Closed}
 use Rattle.stream_task.specs.declared.task.Poll.{Poll}
@@ -67,11 +67,11 @@ alone_leaves told m db live db' live' q a c f t e r = elim (and_false (is_write 
 
 -- the entry of the stream s, with what the engine and the table did
 pub record Did {D : Type 0} (told writes : Bool) (m : Meaning D BoundStmt Answer) (db : D) (live : Lives D) (next : ℕ) (t : Turns) (db' : D) (live' : Lives D) (t' : Turns) (s : StreamNo) (added : Option Entry) : Type 0 where
-  effects : Effects told m writes db live db' live' added
-  from : ComesFrom told writes db live next t s added
-  turn : t'.turn ≡ turn_by s writes added t.turn
-  version : t'.version ≡ version_by added t.version
-  reserved : t'.reserved ≡ t.reserved
+  pub effects : Effects told m writes db live db' live' added
+  pub from : ComesFrom told writes db live next t s added
+  pub turn : t'.turn ≡ turn_by s writes added t.turn
+  pub version : t'.version ≡ version_by added t.version
+  pub reserved : t'.reserved ≡ t.reserved
 
 not_both : (s r : StreamNo) → s ≢ r → (o : Option StreamNo) → o ≡ Some s → o ≡ Some r → ⊥
 not_both s r ne o a b = ne (some_one (sym a ∙ b))
@@ -186,7 +186,7 @@ lives_same live live' added was u same l some = elim (own_or_not was u) [
 lives_gone : {D : Type 0} (live live' : Lives D) (added : Option Entry) (was : Option ℕ) (u v : ℕ) → was ≡ Some v → Became live live' v None → IsSome (live' u) → OwnOrOld live added was u
 lives_gone live live' added was u v o b some = lives_own live live' added was u v None o b (λ e. absurd (no_some (live' u) (ap live' e ∙ b.here) some)) some
 
-lives_after : {D : Type 0} (told writes : Bool) (m : Meaning D BoundStmt Answer) (db : D) (live : Lives D) (next : ℕ) (t : Turns) (db' : D) (live' : Lives D) (t' : Turns) (s : StreamNo) (was : Option ℕ) (u : ℕ) (added : Option Entry)
+pub lives_after : {D : Type 0} (told writes : Bool) (m : Meaning D BoundStmt Answer) (db : D) (live : Lives D) (next : ℕ) (t : Turns) (db' : D) (live' : Lives D) (t' : Turns) (s : StreamNo) (was : Option ℕ) (u : ℕ) (added : Option Entry)
     → Did told writes m db live next t db' live' t' s added → IsOwn was added → IsSome (live' u) → OwnOrOld live added was u
 lives_after told w m db live next t db' live' t' s was u None d o some = lives_same live live' None was u refl d.effects.lives some
 lives_after told w m db live next t db' live' t' s was u (Some (entry.Alone by q a wr)) d o some = lives_same live live' (Some (entry.Alone by q a wr)) was u refl d.effects.lives some
@@ -252,7 +252,7 @@ and_true : (a b : Bool) → true ≡ (a && b) → a ≡ true
 and_true true b e = refl
 and_true false b e = absurd (cc)
 
-keeps_version : {D : Type 0} (told writes : Bool) (m : Meaning D BoundStmt Answer) (db : D) (live : Lives D) (next : ℕ) (t : Turns) (db' : D) (live' : Lives D) (t' : Turns) (s r : StreamNo) (added : Option Entry) → Did told writes m db live next t db' live' t' s added → Holds t s r → t'.version ≡ t.version
+pub keeps_version : {D : Type 0} (told writes : Bool) (m : Meaning D BoundStmt Answer) (db : D) (live : Lives D) (next : ℕ) (t : Turns) (db' : D) (live' : Lives D) (t' : Turns) (s r : StreamNo) (added : Option Entry) → Did told writes m db live next t db' live' t' s added → Holds t s r → t'.version ≡ t.version
 keeps_version told w m db live next t db' live' t' s r None d h = d.version
 keeps_version told w m db live next t db' live' t' s r (Some (entry.Alone by q a true)) d h = absurd (not_free t s r h (d.from.2.free (and_true (is_write q.class) (not (is_refusal a)) d.from.1)))
 keeps_version told w m db live next t db' live' t' s r (Some (entry.Alone by q a false)) d h = d.version
@@ -349,7 +349,7 @@ unit_lives told db live t n u (Some Deferred) a e = absurd (none_some e)
 unit_lives told db live t n u (Some (Dead why)) a e = absurd (none_some e)
 unit_lives told db live t n u (Some Closed) a e = absurd (none_some e)
 
-writes_here : {D : Type 0} (told : Bool) (db : D) (live : Lives D) (t : Turns) (n : ℕ) (x : Option TxnState) → AgreesAt told db live t n x → t.turn ≡ Some (numbered n) → is_writing x ≡ true
+pub writes_here : {D : Type 0} (told : Bool) (db : D) (live : Lives D) (t : Turns) (n : ℕ) (x : Option TxnState) → AgreesAt told db live t n x → t.turn ≡ Some (numbered n) → is_writing x ≡ true
 writes_here told db live t n None a e = absurd (a e)
 writes_here told db live t n (Some (Writing u)) a e = refl
 writes_here told db live t n (Some (Reading u had)) a e = absurd (a.turn e)
@@ -358,7 +358,7 @@ writes_here told db live t n (Some Deferred) a e = absurd (a e)
 writes_here told db live t n (Some (Dead why)) a e = absurd (a e)
 writes_here told db live t n (Some Closed) a e = absurd (a e)
 
-holds_there : {D : Type 0} (told : Bool) (db : D) (live : Lives D) (t : Turns) (n : ℕ) (x : Option TxnState) → AgreesAt told db live t n x → is_writing x ≡ true → t.turn ≡ Some (numbered n)
+pub holds_there : {D : Type 0} (told : Bool) (db : D) (live : Lives D) (t : Turns) (n : ℕ) (x : Option TxnState) → AgreesAt told db live t n x → is_writing x ≡ true → t.turn ≡ Some (numbered n)
 holds_there told db live t n None a e = absurd (true_not_false (sym e))
 holds_there told db live t n (Some (Writing u)) a e = a.turn
 holds_there told db live t n (Some (Reading u had)) a e = absurd (true_not_false (sym e))
@@ -366,6 +366,21 @@ holds_there told db live t n (Some Auto) a e = absurd (true_not_false (sym e))
 holds_there told db live t n (Some Deferred) a e = absurd (true_not_false (sym e))
 holds_there told db live t n (Some (Dead why)) a e = absurd (true_not_false (sym e))
 holds_there told db live t n (Some Closed) a e = absurd (true_not_false (sym e))
+
+-- who holds the turn writes in its unit
+pub record Holder {D : Type 0} (told : Bool) (db : D) (live : Lives D) (t : Turns) (n : ℕ) (x : Option TxnState) : Type 0 where
+  pub unit : ℕ
+  pub state : x ≡ Some (Writing unit)
+  pub writes : WritesIn told db live t (numbered n) unit
+
+pub holder : {D : Type 0} (told : Bool) (db : D) (live : Lives D) (t : Turns) (n : ℕ) (x : Option TxnState) → AgreesAt told db live t n x → t.turn ≡ Some (numbered n) → Holder told db live t n x
+holder told db live t n (Some (Writing u)) a e = record { unit = u; state = refl; writes = a }
+holder told db live t n None a e = absurd (a e)
+holder told db live t n (Some (Reading u had)) a e = absurd (a.turn e)
+holder told db live t n (Some Auto) a e = absurd (a e)
+holder told db live t n (Some Deferred) a e = absurd (a e)
+holder told db live t n (Some (Dead why)) a e = absurd (a e)
+holder told db live t n (Some Closed) a e = absurd (a e)
 
 began_up : (v v' : ℕ) (x : Option TxnState) → v ≤ v' → BeganBy v x → BeganBy v' x
 began_up v v' None l b = tt
@@ -394,6 +409,34 @@ turn_is_writers told shared db live t next states h n = ((λ e. writes_here told
 pub live_are_open : {D : Type 0} (told shared : Bool) (db : D) (live : Lives D) (t : Turns) (next : ℕ) (states : States) → Together told shared db live t next states → LiveAreOpen live states
 live_are_open told shared db live t next states h u = ((λ some. h.owned u some), (λ o. unit_lives told db live t o.stream u (states o.stream) (h.agree o.stream) o.opened))
 
+pub writers_are_writing : {D : Type 0} (told shared : Bool) (db : D) (live : Lives D) (t : Turns) (next : ℕ) (states : States) → Together told shared db live t next states → WritersAreWriting live states
+writers_are_writing told shared db live t next states h u = ((λ w. by_turn t.turn w refl), writes)
+  where
+    by_turn : (turn : Option StreamNo) → IsWriter live u → t.turn ≡ turn → IsWritten states u
+    by_turn None w i = absurd (true_not_false (sym w.writes ∙ h.writers i u w.view w.lives))
+    by_turn (Some by) w i =
+        let k = holder told db live t by.0 (states by.0) (h.agree by.0) i in
+        elim (cases_eq u k.unit) [
+          | inl e ↦ record { stream = by.0; writing = k.state ∙ ap (λ n. Some (Writing n)) (sym e) }
+          | inr ne ↦ absurd (true_not_false (sym w.writes ∙ k.writes.only u w.view w.lives ne))
+        ]
+
+    writes : IsWritten states u → IsWriter live u
+    writes o =
+        let a : WritesIn told db live t (numbered o.stream) u = subst (λ x. AgreesAt told db live t o.stream x) o.writing (h.agree o.stream) in
+        record { view = a.own.view; lives = a.own.lives; writes = a.own.writes }
+
+pub no_readers : {D : Type 0} (told shared : Bool) (db : D) (live : Lives D) (t : Turns) (next : ℕ) (states : States) → Together told shared db live t next states → NoReaders shared states
+no_readers told shared db live t next states h alone n u had e = by_turn t.turn refl
+  where
+    by_turn : (turn : Option StreamNo) → t.turn ≡ turn → ⊥
+    by_turn None i = (let a : ReadsIn told db live t (numbered n) u had = subst (λ x. AgreesAt told db live t n x) e (h.agree n) in no_some (live u) (h.quiet alone i u) a.lives)
+    by_turn (Some by) i =
+        let a : ReadsIn told db live t (numbered n) u had = subst (λ x. AgreesAt told db live t n x) e (h.agree n) in
+        let k = holder told db live t by.0 (states by.0) (h.agree by.0) i in
+        let same : k.unit ≡ u = h.one alone k.unit u (own_lives told db live k.unit k.writes.own) a.lives in
+        a.turn (i ∙ ap (λ m. Some (numbered m)) (h.apart by.0 n u (ap unit_at k.state ∙ ap Some same) (ap unit_at e)))
+
 open_state : (state : TxnState) → is_shut state ≡ false → is_open (Some state) ≡ true
 open_state state e = ap not e
 
@@ -419,7 +462,7 @@ begins_together told shared db live next none = record {
   one = λ e a b some other. absurd (no_some (live a) (none a) some);
 }
 
-apart_numbers : (s : StreamNo) (n : ℕ) → n ≢ s.0 → s ≢ numbered n
+pub apart_numbers : (s : StreamNo) (n : ℕ) → n ≢ s.0 → s ≢ numbered n
 apart_numbers s n ne e = ne (sym (ap (λ (x : StreamNo). x.0) e))
 
 -- it holds of each number, where it holds of this one and of each other one
@@ -462,7 +505,7 @@ other_own : (states : States) (s : StreamNo) (state : TxnState) (k u : ℕ) → 
 other_own states s state k u at apart ne e own = ne (apart k s.0 u e (ap unit_at at ∙ own))
 
 together_after : {D : Type 0} (told shared writes : Bool) (m : Meaning D BoundStmt Answer) (db : D) (live : Lives D) (next : ℕ) (t : Turns) (db' : D) (live' : Lives D) (next' : ℕ) (t' : Turns) (s : StreamNo) (state : TxnState) (now : Option TxnState) (added : Option Entry) (states states' : States) → Classes m
-    → Together told shared db live t next states → states s.0 ≡ Some state → Did told writes m db live next t db' live' t' s added → Goes t.version state added now → Put states states' s.0 now
+    → Together told shared db live t next states → states s.0 ≡ Some state → Did told writes m db live next t db' live' t' s added → Goes shared (seen_in t next) state added now → Put states states' s.0 now
     → AgreesAt told db' live' t' s.0 now → AreBelow live' next' → WritesByTurn live' t' → StaysOne shared live live' t' → Together told shared db' live' t' next' states'
 together_after {D} told shared w m db live next t db' live' next' t' s state now added states states' c h at d g put own below writers one =
     let grows : t.version ≤ t'.version = subst (λ v. t.version ≤ v) (sym d.version) (version_grows added t.version) in
@@ -501,7 +544,7 @@ together_after {D} told shared w m db live next t db' live' next' t' s state now
       | inr none ↦ no_some (live u) none (unit_lives told db live t k u (states k) (h.agree k) e)
     ]
 
-did : {X D : Type 0} (told : Bool) (m : Meaning D BoundStmt Answer) (db : X → D) (live : X → Lives D) (faults : X → ℕ) (s : StreamNo) (engine engine' : X) (t t' : Turns) (old new : Noted) (waits : Bool) (P : Option Entry → Type 0) → (a : AddsOne told m db live faults s engine engine' t t' old new waits P)
+pub did : {X D : Type 0} (told : Bool) (m : Meaning D BoundStmt Answer) (db : X → D) (live : X → Lives D) (faults : X → ℕ) (s : StreamNo) (engine engine' : X) (t t' : Turns) (old new : Noted) (waits : Bool) (P : Option Entry → Type 0) → (a : AddsOne told m db live faults s engine engine' t t' old new waits P)
     → Did told a.writes m (db engine) (live engine) old.next t (db engine') (live engine') t' s a.added
 did told m db live faults s engine engine' t t' old new waits P a = record { effects = a.effects; from = a.moved.from; turn = a.moved.turn; version = a.moved.version; reserved = a.moved.reserved }
 
@@ -517,7 +560,7 @@ polls_together told shared m db live faults engine engine' t t' old new task tas
     (subst (λ x. AgreesAs told (db engine') (live engine') t' x task'.session.state) p.stream p.agrees)
     p.below p.writers p.one
 
-shut_off : {D : Type 0} (told : Bool) (db : D) (live : Lives D) (t : Turns) (n : ℕ) (x : Option TxnState) → is_open x ≡ false → t.turn ≢ Some (numbered n) → AgreesAt told db live t n x
+pub shut_off : {D : Type 0} (told : Bool) (db : D) (live : Lives D) (t : Turns) (n : ℕ) (x : Option TxnState) → is_open x ≡ false → t.turn ≢ Some (numbered n) → AgreesAt told db live t n x
 shut_off told db live t n None e a = a
 shut_off told db live t n (Some (Dead why)) e a = a
 shut_off told db live t n (Some Closed) e a = a
@@ -525,24 +568,6 @@ shut_off told db live t n (Some Auto) e a = absurd (true_not_false e)
 shut_off told db live t n (Some Deferred) e a = absurd (true_not_false e)
 shut_off told db live t n (Some (Reading u had)) e a = absurd (true_not_false e)
 shut_off told db live t n (Some (Writing u)) e a = absurd (true_not_false e)
-
-shut_unit : (x : Option TxnState) → is_open x ≡ false → unit_at x ≡ None
-shut_unit None e = refl
-shut_unit (Some (Dead why)) e = refl
-shut_unit (Some Closed) e = refl
-shut_unit (Some Auto) e = refl
-shut_unit (Some Deferred) e = refl
-shut_unit (Some (Reading u had)) e = absurd (true_not_false e)
-shut_unit (Some (Writing u)) e = absurd (true_not_false e)
-
-shut_began : (v : ℕ) (x : Option TxnState) → is_open x ≡ false → BeganBy v x
-shut_began v None e = tt
-shut_began v (Some (Dead why)) e = tt
-shut_began v (Some Closed) e = tt
-shut_began v (Some Auto) e = tt
-shut_began v (Some Deferred) e = tt
-shut_began v (Some (Reading u had)) e = absurd (true_not_false e)
-shut_began v (Some (Writing u)) e = absurd (true_not_false e)
 
 -- the table lets go of a stream that is shut, or isn't there, and doesn't hold the turn
 lost_together : {D : Type 0} (told shared : Bool) (db : D) (live : Lives D) (t : Turns) (next : ℕ) (states : States) (s : StreamNo) → Together told shared db live t next states → is_open (states s.0) ≡ false → t.turn ≢ Some s → Together told shared db live (after_loss t s) next states
@@ -561,7 +586,7 @@ lost_together told shared db live t next states s h shut off =
     }
 
 -- after the entry that ends its unit the stream doesn't hold the turn
-off_undone : {D : Type 0} (told writes : Bool) (db : D) (live : Lives D) (t between : Turns) (s : StreamNo) (why : Undo) (state : TxnState) → AgreesAs told db live t s state → between.turn ≡ turn_by s writes (undone_of why state) t.turn → between.turn ≢ Some s
+pub off_undone : {D : Type 0} (told writes : Bool) (db : D) (live : Lives D) (t between : Turns) (s : StreamNo) (why : Undo) (state : TxnState) → AgreesAs told db live t s state → between.turn ≡ turn_by s writes (undone_of why state) t.turn → between.turn ≢ Some s
 off_undone told w db live t b s why (Reading u had) a e f = given_back_is t.turn s (sym e ∙ f)
 off_undone told w db live t b s why (Writing u) a e f = given_back_is t.turn s (sym e ∙ f)
 off_undone told w db live t b s why Auto a e f = a (sym e ∙ f)
@@ -584,7 +609,7 @@ ends_together told shared m db live faults engine engine' t t' old new task why 
     let after : Together told shared (db engine') (live engine') between new.next states' =
     together_after told shared a.writes m (db engine) (live engine) old.next t (db engine') (live engine') new.next between s state now a.added states states' c h at
     (did told m db live faults s engine engine' t between old new _ _ a)
-    (subst (λ x. Goes t.version state x now) (sym a.holds) (goes_undone t.version why state now (shut_unit now shut) shut (shut_began t.version now shut)))
+    (subst (λ x. Goes shared (seen_in t old.next) state x now) (sym a.holds) (goes_undone shared (seen_in t old.next) why state now shut))
     put (shut_off told (db engine') (live engine') between s.0 now shut off) p.below (λ e. p.writers (same ∙ e)) (λ alone one. ((p.one alone one).0, λ e. (p.one alone one).1 (same ∙ e))) in
     subst (λ x. Together told shared (db engine') (live engine') x new.next states') (sym p.ends.lost)
     (lost_together told shared (db engine') (live engine') between new.next states' s after (ap is_open put.here ∙ shut) off)

@@ -13,3 +13,4 @@ pub mod Polls
 pub mod Laws
 pub mod Statement
 pub mod Together
+pub mod Leads

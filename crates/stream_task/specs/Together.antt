@@ -4,7 +4,7 @@ use Rattle.hrana_value.specs.declared.StreamNo.{StreamNo}
 use Rattle.serial_order.specs.Serial.{Meaning}
 use Rattle.txn_table.specs.Turns.{Turns, no_turns, has, with_place}
 use Rattle.engine_core.specs.Noted.{Noted}
-use Rattle.engine_core.specs.Transactions.{Lives, NoneLive}
+use Rattle.engine_core.specs.Transactions.{Lives, View, NoneLive}
 use Rattle.engine_core.specs.declared.statement.BoundStmt.{BoundStmt}
 use Rattle.engine_core.specs.declared.entries.Answer.{Answer}
 use Rattle.engine_core.specs.declared.entries.Undo.{Undo}
@@ -86,6 +86,25 @@ TurnIsWriters t states = (n : ℕ) → (t.turn ≡ Some (numbered n)) ↔ (is_wr
 -- the live transactions are the open units
 abbrev pub LiveAreOpen : {D : Type 0} → Lives D → States → Type 0
 LiveAreOpen live states = (unit : ℕ) → IsSome (live unit) ↔ IsOwned states unit
+
+-- the transaction lives and writes
+pub record IsWriter {D : Type 0} (live : Lives D) (unit : ℕ) : Type 0 where
+  pub view : View D
+  pub lives : live unit ≡ Some view
+  pub writes : view.is_writer ≡ true
+
+-- a stream writes in the unit
+pub record IsWritten (states : States) (unit : ℕ) : Type 0 where
+  pub stream : ℕ
+  pub writing : states stream ≡ Some (Writing unit)
+
+-- the live transactions that write are the units in which a stream writes
+abbrev pub WritersAreWriting : {D : Type 0} → Lives D → States → Type 0
+WritersAreWriting live states = (unit : ℕ) → IsWriter live unit ↔ IsWritten states unit
+
+-- where the engine doesn't share, no stream reads in a unit that isn't to write
+abbrev pub NoReaders : Bool → States → Type 0
+NoReaders shared states = shared ≡ false → (n unit had : ℕ) → states n ≢ Some (Reading unit had)
 
 -- ---- what is kept
 

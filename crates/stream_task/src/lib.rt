@@ -7,6 +7,7 @@ mod advance;
 mod checks;
 mod cutting;
 mod laws;
+mod leads;
 mod outcomes;
 mod replies;
 mod session;
@@ -23,6 +24,10 @@ mod work;
 pub use laws::{
     batches_are_meant, each_poll_leaves_the_meaning, each_reply_is_meant, replies_stand_in_order,
     shut_streams_add_nothing,
+};
+pub use leads::{
+    a_joined_stream_stands, ends_lead_on, journal_says_what_stands, polls_lead_on,
+    streams_stand_at_first,
 };
 pub use session::{Cause, TxnState};
 pub use task::{Poll, Stepped, StreamTask, Task};

@@ -2,16 +2,19 @@
 ghost use Rattle.std.specs.Prelude.{ℕ};
 ghost use Rattle.txn_table.specs.Turns.{Turns};
 ghost use Rattle.engine_core.specs.Transactions.{Lives};
-ghost use Rattle.stream_task.specs.Together.{States, Together, TurnIsWriters, LiveAreOpen, EachMayPoll, BeginsTogether, JoinsTogether, PollsTogether, EndsTogether};
+ghost use Rattle.stream_task.specs.Together.{States, Together, TurnIsWriters, LiveAreOpen, WritersAreWriting, NoReaders, EachMayPoll, BeginsTogether, JoinsTogether, PollsTogether, EndsTogether};
 
 use engine_core::Engine;
 
-/// What each stream of a server finds: its polls may be called, the turn is held by the stream that writes, and the live
-/// transactions are the open units.
+/// What each stream of a server finds: its polls may be called, the turn is held by the stream that writes, the live
+/// transactions are the open units, and those that write are the units of streams that write. Over an engine that doesn't share
+/// no stream reads in a unit that isn't to write.
 pub fn streams_agree<E: Engine>()
     ensures polls { EachMayPoll E.Db E.told E.SHARED }
     ensures turn { (db : E.Db) (live : Lives E.Db) (t : Turns) (next : ℕ) (states : States) → Together E.told E.SHARED db live t next states → TurnIsWriters t states }
     ensures units { (db : E.Db) (live : Lives E.Db) (t : Turns) (next : ℕ) (states : States) → Together E.told E.SHARED db live t next states → LiveAreOpen live states }
+    ensures writers { (db : E.Db) (live : Lives E.Db) (t : Turns) (next : ℕ) (states : States) → Together E.told E.SHARED db live t next states → WritersAreWriting live states }
+    ensures readers { (db : E.Db) (live : Lives E.Db) (t : Turns) (next : ℕ) (states : States) → Together E.told E.SHARED db live t next states → NoReaders E.SHARED states }
 {}
 
 /// At the beginning, where the engine has no transaction, they agree.
