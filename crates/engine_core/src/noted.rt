@@ -37,11 +37,12 @@ impl Entries {
         })
     }
 
-    /// Makes the spare places at least `places`.
+    /// Makes the spare places at least `places`. They are never fewer than before.
     pub fn reserve(&mut self, places: usize) -> Result<(), NoMemory>
         ensures list { self.new.list ≡ self.old.list }
         ensures next { self.new.next ≡ self.old.next }
         ensures places { OnOk result (places ≤ self.new.spare) }
+        ensures kept { self.old.spare ≤ self.new.spare }
     {
         self.items.reserve(places)?;
         Ok(())

@@ -31,7 +31,7 @@ pub use leads::{
 };
 pub use session::{Cause, TxnState};
 pub use task::{Poll, Stepped, StreamTask, Task};
-pub use texts::{StoredText, StoredTexts};
+pub use texts::{StoredText, StoredTexts, stored_text};
 pub use together::{
     a_stream_joins, ends_keep_agreement, polls_keep_agreement, streams_agree, streams_begin,
 };

@@ -6,7 +6,7 @@ ghost use Rattle.stream_task.specs.Moved.{AgreesAs, AreBelow, WritesByTurn, Live
 ghost use Rattle.stream_task.specs.Adds.{AddsOne, seen_in};
 ghost use Rattle.stream_task.specs.Advance.{state_left};
 ghost use Rattle.stream_task.specs.Doing.{MayBeAsked};
-ghost use Rattle.stream_task.specs.Polls.{Task as Stream, Polls, Ends, new_task, asked, asks_left, is_waiting, is_pending, answer_of, dead_cause, ended};
+ghost use Rattle.stream_task.specs.Polls.{Task as Stream, Polls, Ends, new_task, with_asks, asked, asks_left, is_waiting, is_pending, answer_of, dead_cause, ended};
 
 use crate::advance::{Advanced, advance};
 use crate::session::{Cause, TxnState};
@@ -187,6 +187,14 @@ impl StreamTask {
         ensures { result ≡ is_waiting self.now.asks }
     {
         self.running.is_some() || !self.queue.is_empty()
+    }
+
+    /// Drops the requests that wait. Takes no memory.
+    pub fn drop_asks(&mut self)
+        ensures { self.new ≡ with_asks self.old self.old.session.state [] }
+    {
+        drop_work(self.running.take());
+        self.queue.clear();
     }
 
     /// Ends the stream from outside: its open unit is taken back, it holds no turn and waits for none, and its requests are

@@ -16,7 +16,7 @@ pub struct StoredText {
 pub type StoredTexts = List<StoredText>;
 
 /// The stored text of this number.
-fn stored_text(texts: &[StoredText], id: i32) -> Option<&str>
+pub fn stored_text(texts: &[StoredText], id: i32) -> Option<&str>
     ensures { MatchOption result (stored_text id texts.now ≡ None) (λ text. stored_text id texts.now ≡ Some text.now) }
 {
     for text in texts {

@@ -122,6 +122,21 @@ abbrev pub HasServerForm : ServerMsg → Type 0
 HasServerForm (server.Ok id k reply) = reply_kind reply ≡ Some k
 HasServerForm m = Unit {0}
 
+-- the message that answers a request with this reply
+abbrev pub answering : ℤ → Reply → ServerMsg
+answering id (Failed e) = server.Error id e
+answering id StreamOpened = server.Ok id kind.OpenStream StreamOpened
+answering id (Execute result) = server.Ok id kind.Execute (Execute result)
+answering id (Batch result) = server.Ok id kind.Batch (Batch result)
+answering id Sequence = server.Ok id kind.Sequence Sequence
+answering id Cursor = server.Ok id kind.OpenCursor Cursor
+answering id (Fetched entries done) = server.Ok id kind.FetchCursor (Fetched entries done)
+answering id CursorClosed = server.Ok id kind.CloseCursor CursorClosed
+answering id (Autocommit auto) = server.Ok id kind.GetAutocommit (Autocommit auto)
+answering id SqlStored = server.Ok id kind.StoreSql SqlStored
+answering id SqlClosed = server.Ok id kind.CloseSql SqlClosed
+answering id Closed = server.Ok id kind.CloseStream Closed
+
 -- ---- texts
 
 abbrev pub IsServerText : List ℕ → ServerMsg → Type 0

@@ -4,7 +4,7 @@ ghost use Rattle.stream_requests.specs.Asks.{ask_kind};
 ghost use Rattle.ws_messages.specs.Kinds.{IsStreamAsk};
 ghost use Rattle.ws_messages.specs.Requests.{IsFormed};
 ghost use Rattle.ws_messages.specs.Client.{HasClientForm};
-ghost use Rattle.ws_messages.specs.Server.{reply_kind, HasServerForm};
+ghost use Rattle.ws_messages.specs.Server.{reply_kind, HasServerForm, answering};
 
 use crate::{ClientMsg, Kind, ServerMsg, WsRequest};
 use stream_requests::{Ask, Reply};
@@ -52,6 +52,16 @@ fn is_stream_ask(ask: &Ask) -> bool
     }
 }
 
+fn ok(request_id: i32, kind: Kind, reply: Reply) -> ServerMsg
+    ensures { result ≡ ServerMsg.Ok request_id kind reply }
+{
+    ServerMsg::Ok {
+        request_id,
+        kind,
+        reply,
+    }
+}
+
 impl WsRequest {
     /// Whether what a stream is asked is what a request may ask it: a statement, a batch, a sequence, whether it is in
     /// autocommit, or to close.
@@ -78,6 +88,31 @@ impl ClientMsg {
 }
 
 impl ServerMsg {
+    /// The message that answers a request with this reply.
+    pub fn answering(request_id: i32, reply: Reply) -> ServerMsg
+        ensures message { result ≡ answering request_id reply }
+        ensures form { HasServerForm result }
+    {
+        match reply {
+            Reply::StreamOpened => ok(request_id, Kind::OpenStream, Reply::StreamOpened),
+            Reply::Execute(result) => ok(request_id, Kind::Execute, Reply::Execute(result)),
+            Reply::Batch(result) => ok(request_id, Kind::Batch, Reply::Batch(result)),
+            Reply::Sequence => ok(request_id, Kind::Sequence, Reply::Sequence),
+            Reply::Cursor => ok(request_id, Kind::OpenCursor, Reply::Cursor),
+            Reply::Fetched { entries, done } => ok(
+                request_id,
+                Kind::FetchCursor,
+                Reply::Fetched { entries, done },
+            ),
+            Reply::CursorClosed => ok(request_id, Kind::CloseCursor, Reply::CursorClosed),
+            Reply::Autocommit(auto) => ok(request_id, Kind::GetAutocommit, Reply::Autocommit(auto)),
+            Reply::SqlStored => ok(request_id, Kind::StoreSql, Reply::SqlStored),
+            Reply::SqlClosed => ok(request_id, Kind::CloseSql, Reply::SqlClosed),
+            Reply::Closed => ok(request_id, Kind::CloseStream, Reply::Closed),
+            Reply::Failed(error) => ServerMsg::Error { request_id, error },
+        }
+    }
+
     /// Whether the message can be written: its reply has the form of its kind.
     pub fn has_form(&self) -> bool
         ensures { IsTrue result ↔ HasServerForm self.now }
