@@ -1,47 +1,79 @@
 -- A condition, level by level.
-use Rattle.std.proofs.Common.{◌≡◌, ℕ, zero, suc, ◌<◌, ◌≤◌, max, List, [], ◌∷◌, Bool, true, false, ◌&&◌, ◌||◌, rules, map, length, get_or, ◌++◌, ◌+◌, take, arith, sym, ◌∙◌, refl, ap}
+use Rattle.std.proofs.Common.{◌≡◌, ℕ, zero, suc, ◌<◌, ◌≤◌, max, List, [], ◌∷◌, Bool, true, false, ◌&&◌, ◌||◌, map, length, get_or, ◌++◌, ◌+◌, take, arith, sym, ◌∙◌, refl, ap}
 use Rattle.std.proofs.lemmas.List.{take_more, map-append}
-use Rattle.std.specs.Prelude.{nat_lt}
+use Rattle.std.proofs.lemmas.Bool.Decides.{nat_tests}
+use Rattle.std.specs.Prelude.{nat_lt, not, slice_get}
 use Rattle.std.specs.List.{list_all, list_any}
-use Rattle.hrana_batch.specs.Conditions.{names_below, depth_of, greatest}
-use Rattle.hrana_batch.specs.declared.conditions.Cond.{Cond, the_lemmas}
+use Rattle.hrana_batch.specs.Conditions.{is_done, is_failed, holds_step, holds_on, names_step, names_below, NamesBelow, depth_step, depth_of, greatest}
+use Rattle.hrana_batch.specs.declared.conditions.Cond.{Cond}
 use Rattle.hrana_batch.specs.declared.conditions.Cond.TheVariants.{StepOk, StepError, Not, All, Any, Autocommit}
+use Rattle.hrana_batch.specs.declared.outcomes.Outcome.{Outcome}
+use Rattle.hrana_batch.proofs.CondLevels.{level-StepOk, level-StepError, level-Not, level-All, level-Any, level-Autocommit}
 
 pub names-StepOk : (n step : ℕ) → names_below n (StepOk step) ≡ nat_lt step n
-names-StepOk n step = search (rules, the_lemmas)
+names-StepOk n step = level-StepOk Bool (names_step n) step
 
 pub names-StepError : (n step : ℕ) → names_below n (StepError step) ≡ nat_lt step n
-names-StepError n step = search (rules, the_lemmas)
+names-StepError n step = level-StepError Bool (names_step n) step
 
 pub names-Not : (n : ℕ) (c : Cond) → names_below n (Not c) ≡ names_below n c
-names-Not n c = search (rules, the_lemmas)
+names-Not n c = level-Not Bool (names_step n) c
 
 pub names-All : (n : ℕ) (cs : List Cond) → names_below n (All cs) ≡ list_all (λ b. b) (map (names_below n) cs)
-names-All n cs = search (rules, the_lemmas)
+names-All n cs = level-All Bool (names_step n) cs
 
 pub names-Any : (n : ℕ) (cs : List Cond) → names_below n (Any cs) ≡ list_all (λ b. b) (map (names_below n) cs)
-names-Any n cs = search (rules, the_lemmas)
+names-Any n cs = level-Any Bool (names_step n) cs
 
 pub names-Autocommit : (n : ℕ) → names_below n Autocommit ≡ true
-names-Autocommit n = search (rules, the_lemmas)
+names-Autocommit n = level-Autocommit Bool (names_step n)
 
 pub depth-StepOk : (n : ℕ) → depth_of (StepOk n) ≡ 1
-depth-StepOk n = search (rules, the_lemmas)
+depth-StepOk n = level-StepOk ℕ depth_step n
 
 pub depth-StepError : (n : ℕ) → depth_of (StepError n) ≡ 1
-depth-StepError n = search (rules, the_lemmas)
+depth-StepError n = level-StepError ℕ depth_step n
 
 pub depth-Not : (c : Cond) → depth_of (Not c) ≡ suc (depth_of c)
-depth-Not c = search (rules, the_lemmas)
+depth-Not c = level-Not ℕ depth_step c
 
 pub depth-All : (cs : List Cond) → depth_of (All cs) ≡ suc (greatest (map depth_of cs))
-depth-All cs = search (rules, the_lemmas)
+depth-All cs = level-All ℕ depth_step cs
 
 pub depth-Any : (cs : List Cond) → depth_of (Any cs) ≡ suc (greatest (map depth_of cs))
-depth-Any cs = search (rules, the_lemmas)
+depth-Any cs = level-Any ℕ depth_step cs
 
 pub depth-Autocommit : depth_of Autocommit ≡ 1
-depth-Autocommit = search (rules, the_lemmas)
+depth-Autocommit = level-Autocommit ℕ depth_step
+
+-- ---- a condition that is one of these
+
+below_true : (m n : ℕ) → nat_lt m n ≡ true → m < n
+below_true m n h = grind (arith, nat_tests)
+
+pub ok_below : (n : ℕ) (cond : Cond) (step : ℕ) → cond ≡ StepOk step → NamesBelow n cond → step < n
+ok_below n cond step is names = below_true step n (sym (ap (names_below n) is ∙ names-StepOk n step) ∙ names)
+
+pub error_below : (n : ℕ) (cond : Cond) (step : ℕ) → cond ≡ StepError step → NamesBelow n cond → step < n
+error_below n cond step is names = below_true step n (sym (ap (names_below n) is ∙ names-StepError n step) ∙ names)
+
+pub ok_holds : (os : List Outcome) (auto : Bool) (cond : Cond) (step : ℕ) → cond ≡ StepOk step → is_done (slice_get os step) ≡ holds_on os auto cond
+ok_holds os auto cond step is = sym (ap (holds_on os auto) is ∙ level-StepOk Bool (holds_step os auto) step)
+
+pub error_holds : (os : List Outcome) (auto : Bool) (cond : Cond) (step : ℕ) → cond ≡ StepError step → is_failed (slice_get os step) ≡ holds_on os auto cond
+error_holds os auto cond step is = sym (ap (holds_on os auto) is ∙ level-StepError Bool (holds_step os auto) step)
+
+pub not_holds : (os : List Outcome) (auto : Bool) (cond c part : Cond) → cond ≡ Not c → part ≡ c → not (holds_on os auto part) ≡ holds_on os auto cond
+not_holds os auto cond c part is same = sym (ap (holds_on os auto) (is ∙ ap Not (sym same)) ∙ level-Not Bool (holds_step os auto) part)
+
+pub all_holds : (os : List Outcome) (auto : Bool) (cond : Cond) (cs parts : List Cond) → cond ≡ All cs → parts ≡ cs → list_all (λ b. b) (map (holds_on os auto) parts) ≡ holds_on os auto cond
+all_holds os auto cond cs parts is same = sym (ap (holds_on os auto) (is ∙ ap All (sym same)) ∙ level-All Bool (holds_step os auto) parts)
+
+pub any_holds : (os : List Outcome) (auto : Bool) (cond : Cond) (cs parts : List Cond) → cond ≡ Any cs → parts ≡ cs → list_any (λ b. b) (map (holds_on os auto) parts) ≡ holds_on os auto cond
+any_holds os auto cond cs parts is same = sym (ap (holds_on os auto) (is ∙ ap Any (sym same)) ∙ level-Any Bool (holds_step os auto) parts)
+
+pub autocommit_holds : (os : List Outcome) (auto : Bool) (cond : Cond) → cond ≡ Autocommit → auto ≡ holds_on os auto cond
+autocommit_holds os auto cond is = sym (ap (holds_on os auto) is ∙ level-Autocommit Bool (holds_step os auto))
 
 -- ---- lists of parts
 

@@ -1,5 +1,5 @@
 -- What the readers of a condition answer, by its parts.
-use Rattle.std.proofs.Common.{◌≡◌, inl, inr, ℕ, List, None, codes, ap, subst, arith}
+use Rattle.std.proofs.Common.{◌≡◌, inl, inr, ℕ, List, [], get_or, map, None, Some, codes, sym, ◌∙◌, ap, subst, arith}
 use Rattle.std.specs.Prelude.{Result, Ok, Err}
 use Rattle.serde_json.specs.Data.{Data}
 use Rattle.hrana_value.specs.declared.failures.Decline.TheVariants.{Shape}
@@ -9,6 +9,7 @@ use Rattle.hrana_value.specs.Declines.{rank_of, Reads}
 use Rattle.hrana_value.specs.Members.{part_at, text_at, Uint32Tree}
 use Rattle.hrana_value.specs.Trees.{ArrayTree, ArrayStands}
 use Rattle.hrana_value.proofs.DeclineLemmas.{Reads-ok, Reads-declined, Reads-same, Reads-made, Reads-failed}
+use Rattle.hrana_batch.specs.declared.condition_json.TheConstants.{CONDITION_KINDS}
 use Rattle.hrana_batch.specs.declared.conditions.Cond.{Cond}
 use Rattle.hrana_batch.specs.declared.conditions.Cond.TheVariants.{StepOk, StepError, Not, All, Any, Autocommit}
 use Rattle.hrana_batch.specs.Tree.{HasKind, CondTree, step_ok, step_error, negation, autocommit, HasNoKind, StepNumberStands, StandsWithin, no_kind, in_number, in_part}
@@ -22,6 +23,12 @@ NumberReads step d r = Reads (λ n. Uint32Tree n d) (StepNumberStands step d) r
 
 abbrev pub ListReads : ℕ → Data → Result (List Cond) ReadFail → Type 0
 ListReads step d r = Reads (λ cs. ArrayTree CondTree cs d) (ArrayStands (StandsWithin step) d) r
+
+-- ---- kinds
+
+-- the tree has the kind of row n, where its text was found in that row
+pub has_kind : (t : Data) (text : List ℕ) (i n : ℕ) → Some text ≡ text_at (codes "type") t → i ≡ n → get_or (map (λ row. row.now) CONDITION_KINDS) i [] ≡ text → HasKind t (get_or (map (λ row. row.now) CONDITION_KINDS) n [])
+has_kind t text i n has at row = sym has ∙ ap Some (sym row ∙ ap (λ k. get_or (map (λ row. row.now) CONDITION_KINDS) k []) at)
 
 -- ---- steps
 

@@ -8,13 +8,14 @@
 --   batch_result_of_json: Reads                   result_json/, by OutcomeReadings, ShapeLemmas
 --   no_tree_is_two_batch_results, batch_results_are_read    result_json/, by OutcomeLaws
 --   batch_result_to_json: written, reads_back     result_json/, by Depths
---   send of conditions, batches and their results    sending/, by CondWritten, BatchWritten, OutcomeLaws
---   holds                                         holding/+holds, by CondLemmas, SizeLemmas
+--   send of conditions, batches and their results    sending/, by CondWritten, SentItems
+--   holds                                         holding/+holds, by CondLemmas, CondLevels, SizeLemmas
 --   turns_are_meant                               running/turns_are_meant, by MeansLemmas
 pub mod BatchReadings
 pub mod BatchWritten
 pub mod CondLaws
 pub mod CondLemmas
+pub mod CondLevels
 pub mod CondReadings
 pub mod CondWritten
 pub mod DepthLemmas
@@ -23,6 +24,7 @@ pub mod FitsLemmas
 pub mod MeansLemmas
 pub mod OutcomeLaws
 pub mod OutcomeReadings
+pub mod SentItems
 pub mod ShapeLemmas
 pub mod SizeLemmas
 pub mod WithinLemmas

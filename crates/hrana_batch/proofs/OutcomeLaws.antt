@@ -1,8 +1,6 @@
--- A tree is one of at most one result of a batch, in which nothing is declined, and what is written for a result is a
--- form of it.
-use Rattle.std.proofs.Common.{◌≡◌, inl, inr, List, [], ◌∷◌, Some, codes, refl, ap, subst, sym, arith}
+-- A tree is one of at most one result of a batch, in which nothing is declined.
+use Rattle.std.proofs.Common.{◌≡◌, inl, inr, List, [], ◌∷◌, codes, refl, ap, subst, arith}
 use Rattle.serde_json.specs.Data.{Data, null, boolean, number, string, array, object, Items, no_items, item}
-use Rattle.serde_json.specs.Find.{as_str}
 use Rattle.hrana_value.specs.Declines.{EitherStands, Only}
 use Rattle.hrana_value.specs.Members.{part_at}
 use Rattle.hrana_value.specs.declared.failures.Decline.TheVariants.{Shape}
@@ -11,15 +9,11 @@ use Rattle.hrana_value.proofs.DeclineLemmas.{NoneStands-parts}
 use Rattle.hrana_value.proofs.ArrayLemmas.{ArrayTree-none}
 use Rattle.hrana_value.proofs.PartLemmas.{OptionalTree-one, OptionalTree-none}
 use Rattle.hrana_stmt.specs.Tree.{IsGiven, StmtResultTree, StmtResultStands, WireErrorTree, WireErrorStands, items_count}
-use Rattle.hrana_stmt.specs.declared.results.StmtResult.{StmtResult}
-use Rattle.hrana_stmt.specs.declared.errors.WireError.{WireError}
 use Rattle.hrana_stmt.proofs.ResultReadings.{StmtResultTree-one, StmtResultTree-none, WireErrorTree-one, WireErrorTree-none}
 use Rattle.hrana_batch.specs.declared.outcomes.Outcome.{Outcome}
 use Rattle.hrana_batch.specs.declared.outcomes.Outcome.TheVariants.{Skipped, Done, Failed}
 use Rattle.hrana_batch.specs.declared.outcomes.BatchResult.{BatchResult}
 use Rattle.hrana_batch.specs.Tree.{result_of, error_in, ResultEntryTree, ErrorEntryTree, BothGiven, PartsClash, NoTreeIsTwoBatchResults, BatchResultsAreRead}
-use Rattle.hrana_stmt.specs.Written.{result_data, error_data}
-use Rattle.hrana_batch.specs.Written.{result_entry, error_entry}
 
 -- ---- a tree is one of at most one result of a batch
 
@@ -107,17 +101,3 @@ BatchResultTree-none r t p =
     (ArrayTree-none ResultEntryTree R (λ o d. OptionalTree-none StmtResultTree StmtResultStands StmtResultTree-none (result_of o) d) r.outcomes results p.results)
     (ArrayTree-none ErrorEntryTree E (λ o d. OptionalTree-none WireErrorTree WireErrorStands WireErrorTree-none (error_in o) d) r.outcomes errors p.errors))
     (λ k here. no_clash r.outcomes results errors p.results p.errors here.1)
-
--- ---- what is written reads back
-
-result_is_given : (x : StmtResult) (d : Data) → StmtResultTree x d → IsGiven d
-result_is_given x d tree absent = (subst (StmtResultTree x) absent tree).cols
-
-error_is_given : (x : WireError) (d : Data) → WireErrorTree x d → IsGiven d
-error_is_given x d tree absent = let none : as_str (part_at (codes "message") null) ≡ Some x.message = (subst (WireErrorTree x) absent tree).message in cc none
-
-pub result_entry_back : (o : Outcome) (x : StmtResult) → o ≡ Done x → StmtResultTree x (result_data x) → ResultEntryTree o (result_entry o)
-result_entry_back o x is tree = subst (λ p. ResultEntryTree p (result_entry p)) (sym is) (result_is_given x (result_data x) tree, tree)
-
-pub error_entry_back : (o : Outcome) (x : WireError) → o ≡ Failed x → WireErrorTree x (error_data x) → ErrorEntryTree o (error_entry o)
-error_entry_back o x is tree = subst (λ p. ErrorEntryTree p (error_entry p)) (sym is) (error_is_given x (error_data x) tree, tree)

@@ -11,6 +11,7 @@ ghost use Rattle.hrana_batch.specs.Parts.{CondReadsBack};
 ghost use Rattle.hrana_batch.specs.Progress.{NamesEarlierSteps};
 ghost use Rattle.hrana_batch.specs.Written.{step_object, optional_cond, step_data, batch_object, batch_data};
 
+use crate::objects::one_member;
 use crate::{Batch, Cond, MAX_STEPS, Step, Steps, cond_of_json, cond_to_json};
 use hrana_stmt::{stmt_of_json, stmt_to_json};
 use hrana_value::{Decline, NoMemory, ReadFail, both_readings, member_or_null, members, with_item};
@@ -139,9 +140,7 @@ fn steps_to_json(alloc: Global, steps: &[Step]) -> Result<Json, NoMemory>
 fn batch_members(alloc: Global, steps: Json) -> Result<Json, NoMemory>
     ensures { IfOk result (λ json. view json ≡ batch_object (view steps)) }
 {
-    let mut members = Map::new(alloc);
-    put(&mut members, alloc, "steps", steps)?;
-    Ok(Json::Object(members))
+    Ok(Json::Object(one_member(alloc, "steps", steps)?))
 }
 
 /// Writes a batch with its members in byte order. A condition that is absent is left out.

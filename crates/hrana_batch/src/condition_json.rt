@@ -1,6 +1,6 @@
 // Conditions from JSON trees and back.
 ghost use Rattle.std.specs.Prelude.{◌≡◌, ◌≤◌, ◌<◌, ◌^◌, ◌⊎◌, ℕ, IfOk, IfErr, IsTrue, ◌↔◌, codes, map, Ok, Err};
-ghost use Rattle.serde_json.specs.Data.{object};
+ghost use Rattle.serde_json.specs.Data.{object, put as put_member};
 ghost use Rattle.serde_json.specs.View.{view, items_view, members_view};
 ghost use Rattle.hrana_value.specs.Declines.{Reads};
 ghost use Rattle.hrana_value.specs.Members.{part_at};
@@ -8,8 +8,9 @@ ghost use Rattle.hrana_value.specs.Names.{RowsDiffer};
 ghost use Rattle.hrana_value.specs.Trees.{ItemsTree, ItemsStand, ArrayTree, ArrayStands};
 ghost use Rattle.hrana_batch.specs.Conditions.{depth_of, greatest};
 ghost use Rattle.hrana_batch.specs.Tree.{HasKind, CondTree, StandsWithin, CondStands, NoTreeIsTwoConditions};
-ghost use Rattle.hrana_batch.specs.Written.{cond_data, type_member, step_cond, not_cond, list_cond};
+ghost use Rattle.hrana_batch.specs.Written.{cond_data, type_member, step_cond};
 
+use crate::objects::one_member;
 use crate::step_numbers::step_number_of_json;
 use crate::{Cond, Conds, MAX_CONDITION_DEPTH};
 use hrana_value::{Decline, NoMemory, ReadFail, index_of, member_or_null, text_member, with_item};
@@ -195,62 +196,29 @@ pub fn cond_of_json(alloc: Global, step: usize, json: &Json) -> Result<Cond, Rea
 fn kind_members(alloc: Global, kind: &str) -> Result<Map<String, Json>, NoMemory>
     ensures { IfOk result (λ members. members_view members.entries ≡ type_member kind.now) }
 {
-    let mut members = Map::new(alloc);
-    let kind = json!(in alloc; kind)?;
-    put(&mut members, alloc, "type", kind)?;
-    Ok(members)
+    one_member(alloc, "type", json!(in alloc; kind)?)
+}
+
+// An object of this `type` and one more member.
+fn object_of_kind(alloc: Global, kind: &str, name: &str, part: Json) -> Result<Json, NoMemory>
+    ensures { IfOk result (λ json. view json ≡ object (put_member name.now (view part) (type_member kind.now))) }
+{
+    let mut members = kind_members(alloc, kind)?;
+    put(&mut members, alloc, name, part)?;
+    Ok(Json::Object(members))
 }
 
 fn step_to_json(alloc: Global, kind: &str, step: u32) -> Result<Json, NoMemory>
     ensures written { IfOk result (λ json. view json ≡ step_cond kind.now step) }
     ensures fits { step < 2 ^ 32 }
 {
-    let mut members = kind_members(alloc, kind)?;
-    put(&mut members, alloc, "step", Json::from(step))?;
-    Ok(Json::Object(members))
+    object_of_kind(alloc, kind, "step", Json::from(step))
 }
 
 fn kind_to_json(alloc: Global, kind: &str) -> Result<Json, NoMemory>
     ensures { IfOk result (λ json. view json ≡ object (type_member kind.now)) }
 {
     Ok(Json::Object(kind_members(alloc, kind)?))
-}
-
-fn not_to_json(alloc: Global, part: Json) -> Result<Json, NoMemory>
-    ensures { IfOk result (λ json. view json ≡ not_cond (view part)) }
-{
-    let mut members = kind_members(alloc, "not")?;
-    put(&mut members, alloc, "cond", part)?;
-    Ok(Json::Object(members))
-}
-
-fn list_to_json(alloc: Global, kind: &str, parts: Vec<Json>) -> Result<Json, NoMemory>
-    ensures { IfOk result (λ json. view json ≡ list_cond kind.now (map view parts.items)) }
-{
-    let mut members = kind_members(alloc, kind)?;
-    put(&mut members, alloc, "conds", Json::Array(parts))?;
-    Ok(Json::Object(members))
-}
-
-fn step_ok_to_json(alloc: Global, step: u32) -> Result<Json, NoMemory>
-    ensures written { IfOk result (λ json. view json ≡ cond_data (Cond.StepOk step)) }
-    ensures reads_back { IfOk result (λ json. CondTree (Cond.StepOk step) (view json)) }
-{
-    step_to_json(alloc, "ok", step)
-}
-
-fn step_error_to_json(alloc: Global, step: u32) -> Result<Json, NoMemory>
-    ensures written { IfOk result (λ json. view json ≡ cond_data (Cond.StepError step)) }
-    ensures reads_back { IfOk result (λ json. CondTree (Cond.StepError step) (view json)) }
-{
-    step_to_json(alloc, "error", step)
-}
-
-fn autocommit_to_json(alloc: Global) -> Result<Json, NoMemory>
-    ensures written { IfOk result (λ json. view json ≡ cond_data Cond.Autocommit) }
-    ensures reads_back { IfOk result (λ json. CondTree Cond.Autocommit (view json)) }
-{
-    kind_to_json(alloc, "is_autocommit")
 }
 
 /// Writes a condition with its members in byte order.
@@ -260,21 +228,21 @@ pub fn cond_to_json(alloc: Global, cond: &Cond) -> Result<Json, NoMemory>
     ensures reads_back { IfOk result (λ json. CondTree cond.now (view json)) }
 {
     match cond {
-        Cond::StepOk(step) => step_ok_to_json(alloc, *step),
-        Cond::StepError(step) => step_error_to_json(alloc, *step),
+        Cond::StepOk(step) => step_to_json(alloc, "ok", *step),
+        Cond::StepError(step) => step_to_json(alloc, "error", *step),
         Cond::Not(part) => {
             let part = cond_to_json(alloc, part.get())?;
-            not_to_json(alloc, part)
+            object_of_kind(alloc, "not", "cond", part)
         }
         Cond::All(parts) => {
             let parts = conds_to_json(alloc, parts.as_slice())?;
-            list_to_json(alloc, "and", parts)
+            object_of_kind(alloc, "and", "conds", Json::Array(parts))
         }
         Cond::Any(parts) => {
             let parts = conds_to_json(alloc, parts.as_slice())?;
-            list_to_json(alloc, "or", parts)
+            object_of_kind(alloc, "or", "conds", Json::Array(parts))
         }
-        Cond::Autocommit => autocommit_to_json(alloc),
+        Cond::Autocommit => kind_to_json(alloc, "is_autocommit"),
     }
 }
 

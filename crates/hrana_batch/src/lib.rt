@@ -8,6 +8,7 @@ mod condition_json;
 mod conditions;
 mod holding;
 mod limits;
+mod objects;
 mod outcomes;
 mod result_json;
 mod running;

@@ -1,15 +1,19 @@
 // Conditions, batches and their results as JSON text.
-ghost use Rattle.std.specs.Prelude.{OnOk, ◌<◌, ◌^◌, map};
-ghost use Rattle.serde_json.specs.Data.{array, object};
-ghost use Rattle.serde_json.specs.Events.{SendsValue};
+ghost use Rattle.std.specs.Prelude.{OnOk, ◌<◌, ◌^◌, Some, codes, map};
+ghost use Rattle.serde_json.specs.Data.{Data, array, object, member, no_members};
+ghost use Rattle.serde_json.specs.Events.{SendsValue, SendsMembers};
 ghost use Rattle.serde_json.specs.View.{items_of};
 ghost use Rattle.hrana_value.specs.Trees.{ItemsTree};
 ghost use Rattle.hrana_value.specs.Whole.{IsWhole};
+ghost use Rattle.hrana_stmt.specs.Tree.{StmtTree};
+ghost use Rattle.hrana_stmt.specs.Written.{stmt_data};
 ghost use Rattle.hrana_batch.specs.Parts.{OutcomesTree};
+ghost use Rattle.hrana_batch.specs.declared.outcomes.Outcome.{Outcome};
 ghost use Rattle.hrana_batch.specs.Tree.{CondTree, StepTree, BatchTree, ResultEntryTree, ErrorEntryTree, BatchResultTree};
-ghost use Rattle.hrana_batch.specs.Written.{cond_data, type_member, step_cond, step_data, batch_data, result_entry, error_entry, batch_result_object, batch_result_data};
+ghost use Rattle.hrana_batch.specs.Written.{cond_data, type_member, step_cond, not_cond, list_cond, step_object, step_data, batch_data, result_entry, error_entry, batch_result_object, batch_result_data};
 
 use crate::{Batch, BatchResult, Cond, Outcome, Step};
+use hrana_stmt::Stmt;
 use hrana_value::{JsonText, end_with_text, send_text_member, send_uint64};
 use serde::Serializer;
 use std::alloc::Global;
@@ -44,26 +48,35 @@ pub fn send_cond<S: Serializer>(cond: &Cond, out: &mut S) -> Result<(), S::Error
     match cond {
         Cond::StepOk(step) => send_step("ok", *step, out),
         Cond::StepError(step) => send_step("error", *step, out),
-        Cond::Not(part) => {
-            out.begin_map(Some(2))?;
-            out.key("cond")?;
-            send_cond(part.get(), out)?;
-            end_with_text("type", "not", out)
-        }
-        Cond::All(parts) => {
-            out.begin_map(Some(2))?;
-            out.key("conds")?;
-            send_conds(parts.as_slice(), out)?;
-            end_with_text("type", "and", out)
-        }
-        Cond::Any(parts) => {
-            out.begin_map(Some(2))?;
-            out.key("conds")?;
-            send_conds(parts.as_slice(), out)?;
-            end_with_text("type", "or", out)
-        }
+        Cond::Not(part) => send_not(part.get(), out),
+        Cond::All(parts) => send_joined("and", parts.as_slice(), out),
+        Cond::Any(parts) => send_joined("or", parts.as_slice(), out),
         Cond::Autocommit => send_kind("is_autocommit", out),
     }
+}
+
+#[cycle(sending)]
+fn send_not<S: Serializer>(part: &Cond, out: &mut S) -> Result<(), S::Error>
+    ensures sends { OnOk result (SendsValue (not_cond (cond_data part.now)) (S.written out.old) (S.written out.new)) }
+    ensures whole { OnOk result (IsWhole (not_cond (cond_data part.now))) }
+    ensures back { OnOk result (CondTree part.now (cond_data part.now)) }
+{
+    out.begin_map(Some(2))?;
+    out.key("cond")?;
+    send_cond(part, out)?;
+    end_with_text("type", "not", out)
+}
+
+#[cycle(sending)]
+fn send_joined<S: Serializer>(kind: &str, parts: &[Cond], out: &mut S) -> Result<(), S::Error>
+    ensures sends { OnOk result (SendsValue (list_cond kind.now (map cond_data parts.now)) (S.written out.old) (S.written out.new)) }
+    ensures whole { OnOk result (IsWhole (list_cond kind.now (map cond_data parts.now))) }
+    ensures back { OnOk result (ItemsTree CondTree parts.now (items_of (map cond_data parts.now))) }
+{
+    out.begin_map(Some(2))?;
+    out.key("conds")?;
+    send_conds(parts, out)?;
+    end_with_text("type", kind, out)
 }
 
 #[cycle(sending)]
@@ -91,6 +104,33 @@ impl JsonText for Cond {
 
 // ---- batches
 
+fn end_with_stmt<S: Serializer>(alloc: Global, stmt: &Stmt, out: &mut S) -> Result<(), S::Error>
+    ensures sends { OnOk result (SendsMembers (member (codes "stmt") (stmt_data stmt.now) no_members) (S.written out.old) (S.written out.new)) }
+    ensures whole { OnOk result (IsWhole (stmt_data stmt.now)) }
+    ensures back { OnOk result (StmtTree stmt.now (stmt_data stmt.now)) }
+{
+    out.key("stmt")?;
+    stmt.send(alloc, out)?;
+    out.end_map()
+}
+
+fn send_conditional<S: Serializer>(
+    alloc: Global,
+    condition: &Cond,
+    stmt: &Stmt,
+    out: &mut S,
+) -> Result<(), S::Error>
+    ensures sends { OnOk result (SendsValue (step_object (Some (cond_data condition.now)) (stmt_data stmt.now)) (S.written out.old) (S.written out.new)) }
+    ensures whole { OnOk result (IsWhole (step_object (Some (cond_data condition.now)) (stmt_data stmt.now))) }
+    ensures condition { OnOk result (CondTree condition.now (cond_data condition.now)) }
+    ensures stmt { OnOk result (StmtTree stmt.now (stmt_data stmt.now)) }
+{
+    out.begin_map(Some(2))?;
+    out.key("condition")?;
+    send_cond(condition, out)?;
+    end_with_stmt(alloc, stmt, out)
+}
+
 impl JsonText for Step {
     ghost form = { step_data };
 
@@ -98,19 +138,10 @@ impl JsonText for Step {
 
     fn send<S: Serializer>(&self, alloc: Global, out: &mut S) -> Result<(), S::Error> {
         match &self.condition {
-            Some(condition) => {
-                out.begin_map(Some(2))?;
-                out.key("condition")?;
-                send_cond(condition, out)?;
-                out.key("stmt")?;
-                self.stmt.send(alloc, out)?;
-                out.end_map()
-            }
+            Some(condition) => send_conditional(alloc, condition, &self.stmt, out),
             None => {
                 out.begin_map(Some(1))?;
-                out.key("stmt")?;
-                self.stmt.send(alloc, out)?;
-                out.end_map()
+                end_with_stmt(alloc, &self.stmt, out)
             }
         }
     }
@@ -131,66 +162,74 @@ impl JsonText for Batch {
 
 // ---- results of batches
 
-fn send_result_entry<S: Serializer>(
-    alloc: Global,
-    outcome: &Outcome,
-    out: &mut S,
-) -> Result<(), S::Error>
-    ensures sends { OnOk result (SendsValue (result_entry outcome.now) (S.written out.old) (S.written out.new)) }
-    ensures whole { OnOk result (IsWhole (result_entry outcome.now)) }
-    ensures back { OnOk result (ResultEntryTree outcome.now (result_entry outcome.now)) }
-{
-    match outcome {
-        Outcome::Done(given) => given.send(alloc, out),
-        Outcome::Failed(_) => out.unit(),
-        Outcome::Skipped => out.unit(),
+/// One of the two lists of a result: what an outcome is there.
+trait Entries {
+    ghost form: { Outcome → Data };
+
+    ghost tree: { Outcome → Data → Type 0 };
+
+    fn send_entry<S: Serializer>(
+        alloc: Global,
+        outcome: &Outcome,
+        out: &mut S,
+    ) -> Result<(), S::Error>
+        ensures sends { OnOk result (SendsValue (form outcome.now) (S.written out.old) (S.written out.new)) }
+        ensures whole { OnOk result (IsWhole (form outcome.now)) }
+        ensures back { OnOk result (tree outcome.now (form outcome.now)) };
+}
+
+struct Results;
+
+struct Errors;
+
+impl Entries for Results {
+    ghost form = { result_entry };
+
+    ghost tree = { ResultEntryTree };
+
+    fn send_entry<S: Serializer>(
+        alloc: Global,
+        outcome: &Outcome,
+        out: &mut S,
+    ) -> Result<(), S::Error> {
+        match outcome {
+            Outcome::Done(given) => given.send(alloc, out),
+            Outcome::Failed(_) => out.unit(),
+            Outcome::Skipped => out.unit(),
+        }
     }
 }
 
-fn send_error_entry<S: Serializer>(
-    alloc: Global,
-    outcome: &Outcome,
-    out: &mut S,
-) -> Result<(), S::Error>
-    ensures sends { OnOk result (SendsValue (error_entry outcome.now) (S.written out.old) (S.written out.new)) }
-    ensures whole { OnOk result (IsWhole (error_entry outcome.now)) }
-    ensures back { OnOk result (ErrorEntryTree outcome.now (error_entry outcome.now)) }
-{
-    match outcome {
-        Outcome::Failed(error) => error.send(alloc, out),
-        Outcome::Done(_) => out.unit(),
-        Outcome::Skipped => out.unit(),
+impl Entries for Errors {
+    ghost form = { error_entry };
+
+    ghost tree = { ErrorEntryTree };
+
+    fn send_entry<S: Serializer>(
+        alloc: Global,
+        outcome: &Outcome,
+        out: &mut S,
+    ) -> Result<(), S::Error> {
+        match outcome {
+            Outcome::Failed(error) => error.send(alloc, out),
+            Outcome::Done(_) => out.unit(),
+            Outcome::Skipped => out.unit(),
+        }
     }
 }
 
-fn send_results<S: Serializer>(
+fn send_entries<E: Entries, S: Serializer>(
     alloc: Global,
     outcomes: &[Outcome],
     out: &mut S,
 ) -> Result<(), S::Error>
-    ensures sends { OnOk result (SendsValue (array (items_of (map result_entry outcomes.now))) (S.written out.old) (S.written out.new)) }
-    ensures whole { OnOk result (IsWhole (array (items_of (map result_entry outcomes.now)))) }
-    ensures back { OnOk result (ItemsTree ResultEntryTree outcomes.now (items_of (map result_entry outcomes.now))) }
+    ensures sends { OnOk result (SendsValue (array (items_of (map E.form outcomes.now))) (S.written out.old) (S.written out.new)) }
+    ensures whole { OnOk result (IsWhole (array (items_of (map E.form outcomes.now)))) }
+    ensures back { OnOk result (ItemsTree E.tree outcomes.now (items_of (map E.form outcomes.now))) }
 {
     out.begin_seq(Some(outcomes.len()))?;
     for outcome in outcomes {
-        send_result_entry(alloc, outcome, out)?;
-    }
-    out.end_seq()
-}
-
-fn send_errors<S: Serializer>(
-    alloc: Global,
-    outcomes: &[Outcome],
-    out: &mut S,
-) -> Result<(), S::Error>
-    ensures sends { OnOk result (SendsValue (array (items_of (map error_entry outcomes.now))) (S.written out.old) (S.written out.new)) }
-    ensures whole { OnOk result (IsWhole (array (items_of (map error_entry outcomes.now)))) }
-    ensures back { OnOk result (ItemsTree ErrorEntryTree outcomes.now (items_of (map error_entry outcomes.now))) }
-{
-    out.begin_seq(Some(outcomes.len()))?;
-    for outcome in outcomes {
-        send_error_entry(alloc, outcome, out)?;
+        E::send_entry(alloc, outcome, out)?;
     }
     out.end_seq()
 }
@@ -206,9 +245,9 @@ fn send_outcomes<S: Serializer>(
 {
     out.begin_map(Some(2))?;
     out.key("step_errors")?;
-    send_errors(alloc, outcomes, out)?;
+    send_entries::<Errors, S>(alloc, outcomes, out)?;
     out.key("step_results")?;
-    send_results(alloc, outcomes, out)?;
+    send_entries::<Results, S>(alloc, outcomes, out)?;
     out.end_map()
 }
 

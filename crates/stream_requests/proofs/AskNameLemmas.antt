@@ -1,5 +1,5 @@
 -- The names of the kinds of asks are the rows of their table, and differ.
-use Rattle.std.proofs.Common.{◌≡◌, ℕ, ◌<◌, List, [], ◌∷◌, length, get_or, Some, codes, refl, ap, ◌∙◌, lit<}
+use Rattle.std.proofs.Common.{◌≡◌, ℕ, ◌<◌, List, [], ◌∷◌, length, get_or, codes, refl, ◌∙◌, lit<}
 use Rattle.hrana_value.proofs.NameLemmas.{RowsDiffer-tested}
 use Rattle.stream_requests.specs.declared.asks.AskKind.{AskKind}
 use Rattle.stream_requests.specs.declared.asks.AskKind.TheVariants.{Execute, Batch, Sequence, Cursor, Fetch, CloseCursor, GetAutocommit, StoreSql, CloseSql, Close}

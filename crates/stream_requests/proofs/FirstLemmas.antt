@@ -1,5 +1,5 @@
 -- The first kind of decline is one.
-use Rattle.std.proofs.Common.{◌≡◌, inl, inr, ◌<◌, refl, arith}
+use Rattle.std.proofs.Common.{◌≡◌, inl, inr, refl, arith}
 use Rattle.std.proofs.lemmas.Bool.{cases_lt}
 use Rattle.hrana_value.specs.declared.failures.Decline.{Decline}
 use Rattle.hrana_value.specs.declared.failures.Decline.TheVariants.{Unknown, Describe, Shape, BothSql, BadStep, Range, Float}

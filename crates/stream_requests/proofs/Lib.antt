@@ -7,8 +7,8 @@
 --   entry_of_json: Reads                          entry_json/entry_of_json, by EntryLemmas, NameLemmas
 --   no_tree_is_two_entries, entries_are_read      entry_json/, by EntryLemmas
 --   no_tree_is_two_pipeline_results, pipeline_results_are_read, of_json of results    result_json/, by ResultLemmas
---   send of results                               result_text/, by FrontLemmas, ResultWritten
---   send of entries, send_ask, send_reply         sending/, by EntryWritten
+--   send_response, send of results                result_text/, by FrontLemmas, ResultWritten
+--   send of entries                               sending/
 -- AskWritten, BatchFacts, Depths, FirstLemmas and JsonTextLemmas serve the crates above.
 pub mod AskLemmas
 pub mod AskNameLemmas
@@ -16,7 +16,6 @@ pub mod AskWritten
 pub mod BatchFacts
 pub mod Depths
 pub mod EntryLemmas
-pub mod EntryWritten
 pub mod FirstLemmas
 pub mod FrontLemmas
 pub mod JsonTextLemmas

@@ -4,7 +4,7 @@ use Rattle.std.specs.Prelude.{Result}
 use Rattle.serde_json.specs.Data.{Data}
 use Rattle.hrana_value.specs.declared.failures.Decline.{Decline}
 use Rattle.hrana_value.specs.declared.failures.ReadFail.{ReadFail}
-use Rattle.hrana_value.specs.Declines.{Reads, NoneStands}
+use Rattle.hrana_value.specs.Declines.{Reads}
 use Rattle.hrana_value.specs.Members.{HasText}
 use Rattle.hrana_value.proofs.TextLemmas.{one, apart}
 use Rattle.hrana_value.proofs.DeclineLemmas.{Reads-weaken, Reads-same, Reads-at}
@@ -14,7 +14,7 @@ use Rattle.hrana_stmt.proofs.ResultReadings.{WireErrorTree-one, WireErrorTree-no
 use Rattle.stream_requests.specs.declared.asks.AskKind.{AskKind}
 use Rattle.stream_requests.specs.declared.replies.Reply.{Reply}
 use Rattle.stream_requests.specs.declared.replies.Reply.TheVariants.{Failed}
-use Rattle.stream_requests.specs.Replies.{answered_kind, IsReplyTo, ReplyMembersStand, NoMembersAreTwoReplies, RepliesAreRead}
+use Rattle.stream_requests.specs.Replies.{IsReplyTo, ReplyMembersStand, NoMembersAreTwoReplies, RepliesAreRead}
 use Rattle.stream_requests.specs.Results.{HasKind, ResponseTree, ResponseStands, no_kind, in_members, response_of, error_of, ResultTree, ResultStands, other_result, in_response, in_error, NoTreeIsTwoPipelineResults, PipelineResultsAreRead}
 use Rattle.stream_requests.proofs.AskNameLemmas.{names_differ}
 

@@ -1,7 +1,7 @@
 -- Which members an ask may be written as, and which declines stand in members that should be those of an ask.
 use Rattle.std.specs.Prelude.{◌≡◌, ◌↔◌, ◌≤◌, ◌<◌, ◌^◌, length, codes, IsSomeAnd, FitsSigned}
 use Rattle.std.specs.Int.{w32}
-use Rattle.serde_json.specs.Data.{Data, Members, member, number, unsigned, string, put}
+use Rattle.serde_json.specs.Data.{Data, Members, member, number, unsigned, string}
 use Rattle.serde_json.specs.Find.{as_str, of_integer}
 use Rattle.hrana_value.specs.declared.failures.Decline.{Decline}
 use Rattle.hrana_value.specs.declared.failures.Decline.TheVariants.{Range}
@@ -10,7 +10,7 @@ use Rattle.hrana_value.specs.Members.{part_at, TextTree, TextStands, Int32Tree, 
 use Rattle.hrana_stmt.specs.declared.limits.TheConstants.{MAX_SQL_BYTES}
 use Rattle.hrana_stmt.specs.Tree.{StmtTree, StmtStands, StmtFits, SqlTree, SqlStands, IsWithinSqlLimit}
 use Rattle.hrana_stmt.specs.Written.{stmt_data, sql_member}
-use Rattle.hrana_stmt.specs.Puts.{put_sql, SqlIdFits}
+use Rattle.hrana_stmt.specs.Puts.{SqlIdFits}
 use Rattle.hrana_batch.specs.Tree.{BatchTree, BatchStands, BatchFits}
 use Rattle.hrana_batch.specs.Written.{batch_data}
 use Rattle.stream_requests.specs.declared.asks.Ask.{Ask}
@@ -75,18 +75,7 @@ AskFits a = Unit {0}
 
 -- ---- what is written
 
--- the members of an ask, put into an object
-abbrev pub put_ask : Ask → Members → Members
-put_ask (Execute stmt) ms = put (codes "stmt") (stmt_data stmt) ms
-put_ask (Batch batch) ms = put (codes "batch") (batch_data batch) ms
-put_ask (Sequence sql) ms = put_sql sql ms
-put_ask (Cursor batch) ms = put (codes "batch") (batch_data batch) ms
-put_ask (Fetch count) ms = put (codes "max_count") (number (unsigned count)) ms
-put_ask (StoreSql id sql) ms = put (codes "sql_id") (number (of_integer id)) (put (codes "sql") (string sql) ms)
-put_ask (CloseSql id) ms = put (codes "sql_id") (number (of_integer id)) ms
-put_ask a ms = ms
-
--- the same members in byte order, before members that come after all of them
+-- the members of an ask in byte order, before members that come after all of them
 abbrev pub ask_front : Ask → Members → Members
 ask_front (Execute stmt) ms = member (codes "stmt") (stmt_data stmt) ms
 ask_front (Batch batch) ms = member (codes "batch") (batch_data batch) ms
@@ -97,7 +86,7 @@ ask_front (StoreSql id sql) ms = member (codes "sql") (string sql) (member (code
 ask_front (CloseSql id) ms = member (codes "sql_id") (number (of_integer id)) ms
 ask_front a ms = ms
 
--- what is put is a form of the ask
+-- what is written is a form of the ask
 abbrev pub AskReadsBack : Ask → Type 0
 AskReadsBack (Execute stmt) = StmtTree stmt (stmt_data stmt)
 AskReadsBack (Batch batch) = BatchTree batch (batch_data batch)

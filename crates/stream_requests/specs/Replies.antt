@@ -1,6 +1,6 @@
 -- Which members a reply may be written as, and which declines stand in members that should be those of a reply.
 use Rattle.std.specs.Prelude.{◌≡◌, Bool, Option, None, Some, codes}
-use Rattle.serde_json.specs.Data.{Data, Members, member, boolean, put}
+use Rattle.serde_json.specs.Data.{Data, Members, member, boolean}
 use Rattle.serde_json.specs.Find.{as_bool}
 use Rattle.hrana_value.specs.declared.failures.Decline.{Decline}
 use Rattle.hrana_value.specs.declared.failures.Decline.TheVariants.{Shape}
@@ -62,15 +62,7 @@ ReplyMembersStand k t = NothingStands
 
 -- ---- what is written
 
--- the members of a reply, put into an object
-abbrev pub put_reply : Reply → Members → Members
-put_reply (Execute r) ms = put (codes "result") (result_data r) ms
-put_reply (Batch r) ms = put (codes "result") (batch_result_data r) ms
-put_reply (Fetched entries done) ms = put (codes "entries") (entries_data entries) (put (codes "done") (boolean done) ms)
-put_reply (Autocommit auto) ms = put (codes "is_autocommit") (boolean auto) ms
-put_reply r ms = ms
-
--- the same members in byte order, before members that come after all of them
+-- the members of a reply in byte order, before members that come after all of them
 abbrev pub reply_front : Reply → Members → Members
 reply_front (Execute r) ms = member (codes "result") (result_data r) ms
 reply_front (Batch r) ms = member (codes "result") (batch_result_data r) ms
@@ -78,7 +70,7 @@ reply_front (Fetched entries done) ms = member (codes "done") (boolean done) (me
 reply_front (Autocommit auto) ms = member (codes "is_autocommit") (boolean auto) ms
 reply_front r ms = ms
 
--- what is put is a form of the reply
+-- what is written is a form of the reply
 abbrev pub ReplyReadsBack : Reply → Type 0
 ReplyReadsBack (Execute r) = StmtResultTree r (result_data r)
 ReplyReadsBack (Batch r) = BatchResultTree r (batch_result_data r)

@@ -3,6 +3,7 @@ use Rattle.std.specs.Prelude.{ℕ, List, map, codes}
 use Rattle.serde_json.specs.Data.{Data, number, unsigned, string, array, object, member, no_members}
 use Rattle.serde_json.specs.View.{items_of}
 use Rattle.hrana_stmt.specs.Written.{cols_data, row_data, rowid_data, error_data}
+use Rattle.hrana_batch.specs.Written.{type_member}
 use Rattle.stream_requests.specs.declared.entries.CursorEntry.{CursorEntry}
 use Rattle.stream_requests.specs.declared.entries.CursorEntry.TheVariants.{StepBegin, StepEnd, StepError, Row, Error}
 
@@ -21,8 +22,9 @@ step_error_object step error = object (member (codes "error") error (member (cod
 abbrev pub row_object : Data → Data
 row_object row = object (member (codes "row") row (member (codes "type") (string (codes "row")) no_members))
 
-abbrev pub error_object : Data → Data
-error_object error = object (member (codes "error") error (member (codes "type") (string (codes "error")) no_members))
+-- also of other errors, by their `type`
+abbrev pub error_object : List ℕ → Data → Data
+error_object kind error = object (member (codes "error") error (type_member kind))
 
 -- ---- entries
 
@@ -31,7 +33,7 @@ entry_data (StepBegin step cols) = begin_object step (cols_data cols)
 entry_data (StepEnd affected rowid) = end_object affected (rowid_data rowid)
 entry_data (StepError step error) = step_error_object step (error_data error)
 entry_data (Row row) = row_object (row_data row)
-entry_data (Error error) = error_object (error_data error)
+entry_data (Error error) = error_object (codes "error") (error_data error)
 
 abbrev pub entries_data : List CursorEntry → Data
 entries_data entries = array (items_of (map entry_data entries))

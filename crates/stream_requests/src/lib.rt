@@ -30,5 +30,5 @@ pub use pipeline_kinds::{
 pub use replies::Reply;
 pub use reply_json::{no_members_are_two_replies, replies_are_read, reply_of_json};
 pub use result_json::{no_tree_is_two_pipeline_results, pipeline_results_are_read};
-pub use result_text::end_with_kind;
-pub use sending::{ask_member_count, reply_member_count, send_ask, send_reply};
+pub use result_text::send_response;
+pub use sending::{ask_member_count, reply_member_count, send_ask, send_error_as, send_reply};

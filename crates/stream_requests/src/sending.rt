@@ -5,10 +5,12 @@ ghost use Rattle.serde_json.specs.Data.{no_members};
 ghost use Rattle.serde_json.specs.Events.{SendsValue, members_len};
 ghost use Rattle.hrana_value.specs.Sent.{SendsFront};
 ghost use Rattle.hrana_value.specs.Whole.{IsWhole, PartsWhole};
+ghost use Rattle.hrana_stmt.specs.Tree.{WireErrorTree};
+ghost use Rattle.hrana_stmt.specs.Written.{error_data};
 ghost use Rattle.stream_requests.specs.Asks.{ask_front, AskReadsBack};
 ghost use Rattle.stream_requests.specs.Entries.{EntryTree};
 ghost use Rattle.stream_requests.specs.Replies.{reply_front, ReplyReadsBack};
-ghost use Rattle.stream_requests.specs.WrittenEntries.{entry_data};
+ghost use Rattle.stream_requests.specs.WrittenEntries.{entry_data, error_object};
 
 use crate::{Ask, CursorEntry, EntryList, Reply};
 use hrana_stmt::{Cols, WireError, send_optional_int64, send_sql};
@@ -82,15 +84,21 @@ fn send_row<S: Serializer>(alloc: Global, row: &Values, out: &mut S) -> Result<(
     end_with_text("type", "row", out)
 }
 
-fn send_error<S: Serializer>(alloc: Global, error: &WireError, out: &mut S) -> Result<(), S::Error>
-    ensures sends { OnOk result (SendsValue (entry_data (CursorEntry.Error error.now)) (S.written out.old) (S.written out.new)) }
-    ensures whole { OnOk result (IsWhole (entry_data (CursorEntry.Error error.now))) }
-    ensures back { OnOk result (EntryTree (CursorEntry.Error error.now) (entry_data (CursorEntry.Error error.now))) }
+/// Sends an error in an object with this `type`.
+pub fn send_error_as<S: Serializer>(
+    alloc: Global,
+    kind: &str,
+    error: &WireError,
+    out: &mut S,
+) -> Result<(), S::Error>
+    ensures sends { OnOk result (SendsValue (error_object kind.now (error_data error.now)) (S.written out.old) (S.written out.new)) }
+    ensures whole { OnOk result (IsWhole (error_object kind.now (error_data error.now))) }
+    ensures back { OnOk result (WireErrorTree error.now (error_data error.now)) }
 {
     out.begin_map(Some(2))?;
     out.key("error")?;
     error.send(alloc, out)?;
-    end_with_text("type", "error", out)
+    end_with_text("type", kind, out)
 }
 
 impl JsonText for CursorEntry {
@@ -107,7 +115,7 @@ impl JsonText for CursorEntry {
             } => send_end(*affected, *last_rowid, out),
             CursorEntry::StepError { step, error } => send_step_error(alloc, *step, error, out),
             CursorEntry::Row(row) => send_row(alloc, row, out),
-            CursorEntry::Error(error) => send_error(alloc, error, out),
+            CursorEntry::Error(error) => send_error_as(alloc, "error", error, out),
         }
     }
 }

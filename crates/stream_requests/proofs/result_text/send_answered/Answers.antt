@@ -10,10 +10,10 @@ use Rattle.stream_requests.proofs.result_text.send_answered.Goals as goal
 pub returns-in-Some-clause-sends : goal.returns-in-Some-clause-sends
 returns-in-Some-clause-sends g c =
     let w = g.S.Serializer.written in
-    subst (λ d. OnOk c.send_response.result (SendsValue d (w c.args.out.now) (w c.send_response.new.out))) (response_some c.args.reply.now c.in-Some.kind c.in-Some.ensures) c.send_response.ensures.sends
+    subst (λ d. OnOk c.send_response.result (SendsValue d (w c.args.out.now) (w c.send_response.new.out))) (response_some c.args.reply.now c.in-Some.kind c.ask_kind_name.result.now c.ask_kind_name.ensures c.in-Some.ensures) c.send_response.ensures.sends
 
 pub returns-in-Some-clause-whole : goal.returns-in-Some-clause-whole
-returns-in-Some-clause-whole g c = subst (λ d. OnOk c.send_response.result (IsWhole d)) (response_some c.args.reply.now c.in-Some.kind c.in-Some.ensures) c.send_response.ensures.whole
+returns-in-Some-clause-whole g c = subst (λ d. OnOk c.send_response.result (IsWhole d)) (response_some c.args.reply.now c.in-Some.kind c.ask_kind_name.result.now c.ask_kind_name.ensures c.in-Some.ensures) c.send_response.ensures.whole
 
 pub returns-in-None-clause-sends : goal.returns-in-None-clause-sends
 returns-in-None-clause-sends g c =

@@ -1,0 +1,18 @@
+use Rattle.std.proofs.Common.{codes, ◌<◌, ◌^◌, refl, subst, arith}
+use Rattle.std.proofs.lemmas.Result.{on_ok_weaker}
+use Rattle.serde_json.specs.Data.{number, unsigned, member}
+use Rattle.serde_json.specs.Events.{SendsValue}
+use Rattle.hrana_value.proofs.SendingLemmas.{whole_object, whole_text, whole_unsigned}
+use Rattle.hrana_batch.specs.Written.{type_member}
+use Rattle.hrana_batch.proofs.sending.send_step.Goals as goal
+
+pub returns-clause-sends : goal.returns-clause-sends
+returns-clause-sends g c =
+    let w = g.S.Serializer.written in
+    let sent = subst (λ n. SendsValue (number (unsigned n)) (w c.key.new.self) (w c.send_uint64.new.out)) c.from.ensures c.in_ok-send_uint64.ensures.sends in
+    on_ok_weaker c.end_with_text.result (λ e. (w c.begin_map.new.self, c.in_ok-begin_map.ensures, (w c.key.new.self, w c.send_uint64.new.out, c.in_ok-key.ensures, sent, e))) c.end_with_text.ensures
+
+pub returns-clause-whole : goal.returns-clause-whole
+returns-clause-whole g c =
+    let n = c.args.step in let kind = c.args.kind.now in let small : n < 2 ^ 32 = c.ranges.step.fits in
+    on_ok_weaker c.end_with_text.result (λ e. whole_object (member (codes "step") (number (unsigned n)) (type_member kind)) refl (whole_unsigned n (omega arith), (whole_text kind, tt))) c.end_with_text.ensures
