@@ -6,7 +6,7 @@ use Rattle.serial_order.specs.Journal.{Txn, commits, units, is_open as is_open_u
 use Rattle.serial_order.specs.Serial.{Meaning}
 use Rattle.serial_order.specs.Explained.{IsOpenAnd, begins, database_at, view_of}
 use Rattle.serial_order.specs.Machine.{Live, State, start, NoLive, Run, RunByTurns}
-use Rattle.txn_table.specs.Turns.{Turns, no_turns, with_place, after_loss}
+use Rattle.txn_table.specs.Turns.{Turns, no_turns, with_place}
 use Rattle.engine_core.specs.Journal.{entry_of}
 use Rattle.engine_core.specs.Noted.{Noted}
 use Rattle.engine_core.specs.Transactions.{Lives, View, NoneLive}
@@ -15,7 +15,7 @@ use Rattle.engine_core.specs.declared.entries.Answer.{Answer}
 use Rattle.engine_core.specs.declared.entries.Undo.{Undo}
 use Rattle.engine_core.specs.declared.entries.Entry.{Entry}
 use Rattle.stream_task.specs.Adds.{seen_in, undone_of}
-use Rattle.stream_task.specs.Leads.{StartsBy, Stands, StandsFor, IsOpenUnit, IsKept}
+use Rattle.stream_task.specs.Leads.{StartsBy, StandsFor, IsOpenUnit, IsKept}
 use Rattle.stream_task.specs.Moved.{AgreesAs, turn_by}
 use Rattle.stream_task.specs.Polls.{Task}
 use Rattle.stream_task.specs.Together.{States, Put, is_open, unit_at, Together, HasPolled, HasEnded}
@@ -43,6 +43,22 @@ begins_standing shared m run turns db live none = record {
     units = λ unit. view_along None (live unit) None None (none unit) refl tt;
     streams = λ unit its e. absurd (none_some e);
     starts = λ unit its e. absurd (none_some e);
+  };
+}
+
+pub version_stands : {D : Type 0} (shared : Bool) (m : Meaning D BoundStmt Answer) (db : D) (live : Lives D) (t t' : Turns) (next : ℕ) (states : States) → t'.version ≡ t.version
+    → (first : D) (journal : List Entry) → StandsFor shared m first journal db live t next states → StandsFor shared m first journal db live t' next states
+version_stands shared m db live t t' next states same first journal f = record {
+  machine = f.machine;
+  run = f.run;
+  turns = f.turns;
+  stands = record {
+    database = f.stands.database;
+    version = f.stands.version ∙ sym same;
+    number = f.stands.number;
+    units = f.stands.units;
+    streams = f.stands.streams;
+    starts = λ unit its e. subst (λ v. StartsBy v (states its.stream) its.start) (sym same) (f.stands.starts unit its e);
   };
 }
 
@@ -78,10 +94,6 @@ polls_lead told shared m db live faults engine engine' t t' old new task task' r
     (subst (λ x. AgreesAs told (db engine') (live engine') t' x task'.session.state) p.stream p.agrees)
     p.adds.next f
 
--- the table lets go of a stream
-stands_lost : {D : Type 0} (db : D) (live : Lives D) (t : Turns) (next : ℕ) (states : States) (s : StreamNo) (machine : State D) → Stands db live t next states machine → Stands db live (after_loss t s) next states machine
-stands_lost db live t next states s machine st = record { database = st.database; version = st.version; number = st.number; units = st.units; streams = st.streams; starts = st.starts }
-
 pub ends_lead : {X D : Type 0} (told shared : Bool) (m : Meaning D BoundStmt Answer) (db : X → D) (live : X → Lives D) (faults : X → ℕ) (engine engine' : X) (t t' : Turns) (old new : Noted) (task : Task) (why : Undo) (now : Option TxnState) (states states' : States) → Classes m → GoesOn m
     → IsTrue told → Together told shared (db engine) (live engine) t old.next states → states task.stream.0 ≡ Some task.session.state → HasEnded told shared m db live faults engine engine' t t' old new task why → is_open now ≡ false → Put states states' task.stream.0 now
     → (first : D) (journal : List Entry) → StandsFor shared m first journal (db engine) (live engine) t old.next states → StandsFor shared m first (journal ++ option_to_list (undone_of why task.session.state)) (db engine') (live engine') t' new.next states'
@@ -98,8 +110,7 @@ ends_lead told shared m db live faults engine engine' t t' old new task why now 
     (subst (λ x. Goes shared (seen_in t old.next) state x now) (sym a.holds) (goes_undone shared (seen_in t old.next) why state now shut))
     put (shut_off told (db engine') (live engine') between s.0 now shut off) a.next f in
     subst (λ x. StandsFor shared m first (journal ++ option_to_list x) (db engine') (live engine') t' new.next states') a.holds
-    (subst (λ x. StandsFor shared m first (journal ++ option_to_list a.added) (db engine') (live engine') x new.next states') (sym p.ends.lost)
-    (record { machine = after.machine; run = after.run; turns = after.turns; stands = stands_lost (db engine') (live engine') between new.next states' s after.machine after.stands }))
+    (version_stands shared m (db engine') (live engine') between t' new.next states' (ap (λ (x : Turns). x.version) p.ends.lost) first (journal ++ option_to_list a.added) after)
 
 -- ---- what the journal says
 

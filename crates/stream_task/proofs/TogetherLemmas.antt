@@ -23,7 +23,7 @@ use Rattle.stream_task.specs.Moved.{ComesFrom, AgreesAs, WritesIn, ReadsIn, AreB
 use Rattle.stream_task.specs.Polls.{Task}
 use Rattle.stream_task.specs.Session.{is_shut, unit_of}
 use Rattle.stream_task.specs.Table.{wrote}
-use Rattle.stream_task.specs.Together.{States, Put, numbered, AgreesAt, is_open, is_writing, unit_at, BeganBy, IsOwned, Together, TurnIsWriters, LiveAreOpen, IsWriter, IsWritten, WritersAreWriting, NoReaders, MayPoll, HasPolled, HasEnded}
+use Rattle.stream_task.specs.Together.{States, Put, numbered, AgreesAt, is_open, is_writing, unit_at, BeganBy, IsOwned, Together, TurnIsWriters, LiveAreOpen, IsLiveWriter, IsWritersUnit, WritersAreWriting, NoReaders, MayPoll, HasPolled, HasEnded}
 use Rattle.stream_task.specs.declared.session.TxnState.{TxnState}
 use Rattle.stream_task.specs.declared.session.TxnState.TheVariants.{Auto, Deferred, Reading, Writing, Dead, Closed}
 use Rattle.stream_task.specs.declared.task.Poll.{Poll}
@@ -412,7 +412,7 @@ live_are_open told shared db live t next states h u = ((λ some. h.owned u some)
 pub writers_are_writing : {D : Type 0} (told shared : Bool) (db : D) (live : Lives D) (t : Turns) (next : ℕ) (states : States) → Together told shared db live t next states → WritersAreWriting live states
 writers_are_writing told shared db live t next states h u = ((λ w. by_turn t.turn w refl), writes)
   where
-    by_turn : (turn : Option StreamNo) → IsWriter live u → t.turn ≡ turn → IsWritten states u
+    by_turn : (turn : Option StreamNo) → IsLiveWriter live u → t.turn ≡ turn → IsWritersUnit states u
     by_turn None w i = absurd (true_not_false (sym w.writes ∙ h.writers i u w.view w.lives))
     by_turn (Some by) w i =
         let k = holder told db live t by.0 (states by.0) (h.agree by.0) i in
@@ -421,7 +421,7 @@ writers_are_writing told shared db live t next states h u = ((λ w. by_turn t.tu
           | inr ne ↦ absurd (true_not_false (sym w.writes ∙ k.writes.only u w.view w.lives ne))
         ]
 
-    writes : IsWritten states u → IsWriter live u
+    writes : IsWritersUnit states u → IsLiveWriter live u
     writes o =
         let a : WritesIn told db live t (numbered o.stream) u = subst (λ x. AgreesAt told db live t o.stream x) o.writing (h.agree o.stream) in
         record { view = a.own.view; lives = a.own.lives; writes = a.own.writes }

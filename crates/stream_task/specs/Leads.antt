@@ -67,6 +67,11 @@ JoinsStanding {D} shared m = (db : D) (live : Lives D) (t : Turns) (next : ℕ) 
     → states stream.0 ≡ None → Put states states' stream.0 (Some Auto)
     → (first : D) (journal : List Entry) → StandsFor shared m first journal db live t next states → StandsFor shared m first journal db live (with_place t stream) next states'
 
+-- so does what else changes in the table, such as a place, where its version stays
+abbrev pub VersionStands : {D : Type 0} → Bool → Meaning D BoundStmt Answer → Type 0
+VersionStands {D} shared m = (db : D) (live : Lives D) (t t' : Turns) (next : ℕ) (states : States) → t'.version ≡ t.version
+    → (first : D) (journal : List Entry) → StandsFor shared m first journal db live t next states → StandsFor shared m first journal db live t' next states
+
 -- the entry of a poll leads on
 abbrev pub PollsLead : {X D : Type 0} → Bool → Bool → Meaning D BoundStmt Answer → (X → D) → (X → Lives D) → (X → ℕ) → Type 0
 PollsLead {X} {D} told shared m db live faults = (engine engine' : X) (t t' : Turns) (old new : Noted) (task task' : Task) (result : Poll Stepped) (states states' : States)

@@ -88,19 +88,19 @@ abbrev pub LiveAreOpen : {D : Type 0} → Lives D → States → Type 0
 LiveAreOpen live states = (unit : ℕ) → IsSome (live unit) ↔ IsOwned states unit
 
 -- the transaction lives and writes
-pub record IsWriter {D : Type 0} (live : Lives D) (unit : ℕ) : Type 0 where
+pub record IsLiveWriter {D : Type 0} (live : Lives D) (unit : ℕ) : Type 0 where
   pub view : View D
   pub lives : live unit ≡ Some view
   pub writes : view.is_writer ≡ true
 
 -- a stream writes in the unit
-pub record IsWritten (states : States) (unit : ℕ) : Type 0 where
+pub record IsWritersUnit (states : States) (unit : ℕ) : Type 0 where
   pub stream : ℕ
   pub writing : states stream ≡ Some (Writing unit)
 
 -- the live transactions that write are the units in which a stream writes
 abbrev pub WritersAreWriting : {D : Type 0} → Lives D → States → Type 0
-WritersAreWriting live states = (unit : ℕ) → IsWriter live unit ↔ IsWritten states unit
+WritersAreWriting live states = (unit : ℕ) → IsLiveWriter live unit ↔ IsWritersUnit states unit
 
 -- where the engine doesn't share, no stream reads in a unit that isn't to write
 abbrev pub NoReaders : Bool → States → Type 0

@@ -1,6 +1,6 @@
 // The laws of what the streams, the table of turns and the engine stand for. Each is a function that does nothing: its body only
 // names the law of serial order, where it rests on that.
-ghost use Rattle.stream_task.specs.Leads.{BeginsStanding, JoinsStanding, PollsLead, EndsLead, StandsAtNothing, StandsAsKept, StandsExplained};
+ghost use Rattle.stream_task.specs.Leads.{BeginsStanding, JoinsStanding, VersionStands, PollsLead, EndsLead, StandsAtNothing, StandsAsKept, StandsExplained};
 
 use engine_core::{Answer, BoundStmt, Engine};
 use serial_order::serial_order;
@@ -15,6 +15,11 @@ pub fn streams_stand_at_first<E: Engine>()
 /// They stand for the same journal where one more stream has got its place.
 pub fn a_joined_stream_stands<E: Engine>()
     ensures { JoinsStanding E.SHARED E.meaning }
+{}
+
+/// And where the table of turns changes, but for its version.
+pub fn version_alone_stands<E: Engine>()
+    ensures { VersionStands E.SHARED E.meaning }
 {}
 
 /// A poll of one of them leads on: they stand for the journal with its entry, over an engine that tells its tables.

@@ -27,7 +27,7 @@ pub use laws::{
 };
 pub use leads::{
     a_joined_stream_stands, ends_lead_on, journal_says_what_stands, polls_lead_on,
-    streams_stand_at_first,
+    streams_stand_at_first, version_alone_stands,
 };
 pub use session::{Cause, TxnState};
 pub use task::{Poll, Stepped, StreamTask, Task};
