@@ -7,10 +7,10 @@ ghost use Rattle.pipeline_body.specs.Written.{request_data};
 
 use crate::{PipeAsk, PipelineAnswer, PipelineBody};
 use hrana_stmt::send_optional_text;
-use hrana_value::JsonText;
+use hrana_value::{JsonText, end_with_text};
 use serde::Serializer;
 use std::alloc::Global;
-use stream_requests::{Ask, ask_member_count, end_with_kind, send_ask};
+use stream_requests::{Ask, ask_kind_name, ask_member_count, send_ask};
 
 // ---- bodies
 
@@ -21,7 +21,7 @@ fn send_request<S: Serializer>(alloc: Global, ask: &Ask, out: &mut S) -> Result<
 {
     out.begin_map(Some(ask_member_count(ask) + 1))?;
     send_ask(alloc, ask, out)?;
-    end_with_kind(ask.kind(), out)
+    end_with_text("type", ask_kind_name(ask.kind()), out)
 }
 
 impl JsonText for PipeAsk {

@@ -8,7 +8,7 @@
 --   no_tree_is_two_entries, entries_are_read      entry_json/, by EntryLemmas
 --   no_tree_is_two_pipeline_results, pipeline_results_are_read, of_json of results    result_json/, by ResultLemmas
 --   send_response, send of results                result_text/, by FrontLemmas, ResultWritten
---   send of entries                               sending/
+--   send of entries, send_error_as                sending/
 -- AskWritten, BatchFacts, Depths, FirstLemmas and JsonTextLemmas serve the crates above.
 pub mod AskLemmas
 pub mod AskNameLemmas

@@ -12,7 +12,7 @@ use Rattle.hrana_stmt.proofs.WrittenLemmas.{optional_text_back}
 use Rattle.hrana_batch.proofs.Depths.{depth-batch_data}
 use Rattle.stream_requests.specs.declared.asks.Ask.{Ask}
 use Rattle.stream_requests.specs.declared.asks.Ask.TheVariants.{Execute, Batch, Sequence, Cursor, GetAutocommit, Close}
-use Rattle.stream_requests.specs.Asks.{ask_kind, AskMembers, AskFits, AskReadsBack, put_ask}
+use Rattle.stream_requests.specs.Asks.{ask_kind, AskMembers, AskFits, AskReadsBack, ask_front}
 use Rattle.stream_requests.proofs.AskWritten.{int32_back}
 use Rattle.ws_messages.specs.declared.messages.WsRequest.{WsRequest}
 use Rattle.ws_messages.specs.declared.messages.WsRequest.TheVariants.{OpenStream, OnStream, OpenCursor, CloseCursor, FetchCursor, StoreSql, CloseSql}
@@ -26,7 +26,7 @@ use Rattle.ws_messages.specs.WrittenClient.{on_stream, request_data, client_data
 
 -- ---- forms
 
-ask_back : (a : Ask) (stream : ℤ) (k : Kind) → IsStreamAsk (ask_kind a) → AskReadsBack a → AskMembers a (object (put_ask a (on_stream stream k)))
+ask_back : (a : Ask) (stream : ℤ) (k : Kind) → IsStreamAsk (ask_kind a) → AskReadsBack a → AskMembers a (object (ask_front a (on_stream stream k)))
 ask_back (Execute stmt) stream k formed h = h
 ask_back (Batch batch) stream k formed h = h
 ask_back (Sequence (sql.Text s)) stream k formed h = (refl, refl)
@@ -35,7 +35,7 @@ ask_back GetAutocommit stream k formed h = tt
 ask_back Close stream k formed h = tt
 ask_back a stream k formed h = absurd formed
 
-stream_back : (a : Ask) (stream : ℤ) (k : Kind) → IsStreamAsk (ask_kind a) → FitsSigned w32 stream → HasInt32 (object (put_ask a (on_stream stream k))) (codes "stream_id") stream
+stream_back : (a : Ask) (stream : ℤ) (k : Kind) → IsStreamAsk (ask_kind a) → FitsSigned w32 stream → HasInt32 (object (ask_front a (on_stream stream k))) (codes "stream_id") stream
 stream_back (Execute stmt) stream k formed h = int32_back stream h
 stream_back (Batch batch) stream k formed h = int32_back stream h
 stream_back (Sequence (sql.Text s)) stream k formed h = int32_back stream h
@@ -44,7 +44,7 @@ stream_back GetAutocommit stream k formed h = int32_back stream h
 stream_back Close stream k formed h = int32_back stream h
 stream_back a stream k formed h = absurd formed
 
-kind_back : (a : Ask) (stream : ℤ) (k : Kind) → IsStreamAsk (ask_kind a) → HasText (object (put_ask a (on_stream stream k))) (codes "type") (name_of k)
+kind_back : (a : Ask) (stream : ℤ) (k : Kind) → IsStreamAsk (ask_kind a) → HasText (object (ask_front a (on_stream stream k))) (codes "type") (name_of k)
 kind_back (Execute stmt) stream k formed = refl
 kind_back (Batch batch) stream k formed = refl
 kind_back (Sequence (sql.Text s)) stream k formed = refl
@@ -69,7 +69,7 @@ client_back (Request id r) formed h = (refl, int32_back id h.0, request_back r f
 
 -- ---- depth
 
-depth_asked : (a : Ask) (stream : ℤ) (k : Kind) (t : Data) → AskMembers a t → AskFits a → members_depth (put_ask a (on_stream stream k)) ≤ 70
+depth_asked : (a : Ask) (stream : ℤ) (k : Kind) (t : Data) → AskMembers a t → AskFits a → members_depth (ask_front a (on_stream stream k)) ≤ 70
 depth_asked (Execute stmt) stream k t h fits = omega (arith, depth-stmt_data stmt)
 depth_asked (Batch batch) stream k t h fits = omega (arith, depth-batch_data batch (part_at (codes "batch") t) h fits)
 depth_asked (Sequence (sql.Text s)) stream k t h fits = omega arith

@@ -1,49 +1,19 @@
--- What is written for a message of the server is a form of it, and is not too deep to be read.
-use Rattle.std.proofs.Common.{◌≡◌, ℕ, ◌≤◌, List, Some, codes, refl, arith}
+-- What is written for a message of the server is not too deep to be read.
+use Rattle.std.proofs.Common.{◌≡◌, ℕ, ◌≤◌, List, Some, arith}
 use Rattle.std.specs.Prelude.{IsUtf8, Result, Ok, Err, IfOk, OnOk}
 use Rattle.serde_json.specs.Data.{depth}
 use Rattle.serde_json.specs.Read.{read, max_depth}
-use Rattle.hrana_value.specs.Members.{HasText}
 use Rattle.hrana_value.specs.declared.failures.NoMemory.{NoMemory}
 use Rattle.hrana_stmt.proofs.Depths.{depth-result_data, depth-error_data}
 use Rattle.hrana_batch.proofs.Depths.{depth-batch_result_data}
 use Rattle.stream_requests.specs.declared.replies.Reply.{Reply}
-use Rattle.stream_requests.specs.declared.replies.Reply.TheVariants.{StreamOpened, Execute, Batch, Sequence, Cursor, Fetched, CursorClosed, Autocommit, SqlStored, SqlClosed, Closed, Failed}
-use Rattle.stream_requests.specs.Replies.{ReplyMembers, ReplyReadsBack}
+use Rattle.stream_requests.specs.declared.replies.Reply.TheVariants.{Execute, Batch, Fetched}
 use Rattle.stream_requests.proofs.Depths.{depth-entries_data}
-use Rattle.stream_requests.proofs.AskWritten.{int32_back}
 use Rattle.ws_messages.specs.declared.kinds.Kind.{Kind}
 use Rattle.ws_messages.specs.declared.messages.ServerMsg.{ServerMsg}
 use Rattle.ws_messages.specs.declared.messages.ServerMsg.TheVariants as server
-use Rattle.ws_messages.specs.Kinds.{name_of}
 use Rattle.ws_messages.specs.Server.{ServerTree, HasServerForm, IsServerText}
-use Rattle.ws_messages.specs.WrittenServer.{response_data, server_data, ServerReadsBack}
-
--- ---- forms
-
-reply_back : (r : Reply) (k : Kind) → ReplyReadsBack r → ReplyMembers r (response_data k r)
-reply_back StreamOpened k h = tt
-reply_back (Execute s) k h = h
-reply_back (Batch s) k h = h
-reply_back Sequence k h = tt
-reply_back Cursor k h = tt
-reply_back (Fetched entries done) k h = (h, refl)
-reply_back CursorClosed k h = tt
-reply_back (Autocommit auto) k h = refl
-reply_back SqlStored k h = tt
-reply_back SqlClosed k h = tt
-reply_back Closed k h = tt
-reply_back (Failed e) k h = tt
-
-kind_back : (r : Reply) (k : Kind) → HasText (response_data k r) (codes "type") (name_of k)
-kind_back StreamOpened k = refl
-kind_back r k = refl
-
-pub server_back : (m : ServerMsg) → HasServerForm m → ServerReadsBack m → ServerTree m (server_data m)
-server_back server.HelloOk formed h = refl
-server_back (server.HelloError e) formed h = (refl, h)
-server_back (server.Ok id k r) formed h = (refl, int32_back id h.0, record { kind = kind_back r k; reply = record { form = formed; members = reply_back r k h.1 } })
-server_back (server.Error id e) formed h = (refl, int32_back id h.0, h.1)
+use Rattle.ws_messages.specs.WrittenServer.{response_data, server_data}
 
 -- ---- depth
 

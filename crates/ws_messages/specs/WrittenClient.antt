@@ -6,7 +6,7 @@ use Rattle.serde_json.specs.Find.{of_integer}
 use Rattle.hrana_stmt.specs.Written.{optional_text}
 use Rattle.hrana_batch.specs.Tree.{BatchTree}
 use Rattle.hrana_batch.specs.Written.{batch_data}
-use Rattle.stream_requests.specs.Asks.{ask_kind, put_ask, AskReadsBack}
+use Rattle.stream_requests.specs.Asks.{ask_kind, ask_front, AskReadsBack}
 use Rattle.ws_messages.specs.declared.messages.WsRequest.{WsRequest}
 use Rattle.ws_messages.specs.declared.messages.WsRequest.TheVariants.{OpenStream, OnStream, OpenCursor, CloseCursor, FetchCursor, StoreSql, CloseSql}
 use Rattle.ws_messages.specs.declared.messages.ClientMsg.{ClientMsg}
@@ -31,7 +31,7 @@ on_cursor cursor ms = member (codes "cursor_id") (integer cursor) ms
 -- the members of an ask come before the id of its stream
 abbrev pub request_data : WsRequest → Data
 request_data (OpenStream stream) = object (on_stream stream kind.OpenStream)
-request_data (OnStream stream asked) = object (put_ask asked (on_stream stream (kind_of (ask_kind asked))))
+request_data (OnStream stream asked) = object (ask_front asked (on_stream stream (kind_of (ask_kind asked))))
 request_data (OpenCursor stream cursor batch) = object (member (codes "batch") (batch_data batch) (on_cursor cursor (on_stream stream kind.OpenCursor)))
 request_data (CloseCursor cursor) = object (on_cursor cursor (kind_member kind.CloseCursor))
 request_data (FetchCursor cursor count) = object (on_cursor cursor (member (codes "max_count") (number (unsigned count)) (kind_member kind.FetchCursor)))

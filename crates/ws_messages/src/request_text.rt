@@ -24,8 +24,8 @@ pub fn send_id<S: Serializer>(name: &str, id: i32, out: &mut S) -> Result<(), S:
     send_int32(id, out)
 }
 
-/// Sends the `type` of a kind of request, and the object's end.
-pub fn end_with_kind<S: Serializer>(kind: Kind, out: &mut S) -> Result<(), S::Error>
+// Sends the `type` of a kind of request, and the object's end.
+fn end_with_kind<S: Serializer>(kind: Kind, out: &mut S) -> Result<(), S::Error>
     ensures { OnOk result (SendsMembers (kind_member kind) (S.written out.old) (S.written out.new)) }
 {
     end_with_text("type", kind_name(kind), out)

@@ -2,19 +2,18 @@
 ghost use Rattle.std.specs.Prelude.{OnOk};
 ghost use Rattle.serde_json.specs.Events.{SendsValue};
 ghost use Rattle.hrana_value.specs.Whole.{IsWhole};
-ghost use Rattle.stream_requests.specs.Replies.{ReplyReadsBack};
 ghost use Rattle.ws_messages.specs.Client.{HasClientForm, ClientTree};
 ghost use Rattle.ws_messages.specs.Server.{HasServerForm, ServerTree};
 ghost use Rattle.ws_messages.specs.WrittenClient.{client_data, ClientReadsBack};
-ghost use Rattle.ws_messages.specs.WrittenServer.{response_data, server_data, ServerReadsBack};
+ghost use Rattle.ws_messages.specs.WrittenServer.{server_data, ServerReadsBack};
 
-use crate::request_text::{end_with_kind, send_id, send_request};
-use crate::{ClientMsg, Kind, ServerMsg, WsRequest};
+use crate::request_text::{send_id, send_request};
+use crate::{ClientMsg, Kind, ServerMsg, WsRequest, kind_name};
 use hrana_stmt::{WireError, send_optional_text};
 use hrana_value::{JsonText, Txt, end_with_text, send_text_member};
 use serde::Serializer;
 use std::alloc::Global;
-use stream_requests::{Reply, reply_member_count, send_reply};
+use stream_requests::{Reply, send_error_as, send_response};
 
 // ---- messages of a client
 
@@ -63,36 +62,6 @@ impl JsonText for ClientMsg {
 
 // ---- messages of the server
 
-fn send_response<S: Serializer>(
-    alloc: Global,
-    kind: Kind,
-    reply: &Reply,
-    out: &mut S,
-) -> Result<(), S::Error>
-    ensures sends { OnOk result (SendsValue (response_data kind reply.now) (S.written out.old) (S.written out.new)) }
-    ensures whole { OnOk result (IsWhole (response_data kind reply.now)) }
-    ensures back { OnOk result (ReplyReadsBack reply.now) }
-{
-    out.begin_map(Some(reply_member_count(reply) + 1))?;
-    send_reply(alloc, reply, out)?;
-    end_with_kind(kind, out)
-}
-
-fn send_hello_error<S: Serializer>(
-    alloc: Global,
-    error: &WireError,
-    out: &mut S,
-) -> Result<(), S::Error>
-    ensures sends { OnOk result (SendsValue (server_data (ServerMsg.HelloError error.now)) (S.written out.old) (S.written out.new)) }
-    ensures whole { OnOk result (IsWhole (server_data (ServerMsg.HelloError error.now))) }
-    ensures back { OnOk result (ServerReadsBack (ServerMsg.HelloError error.now)) }
-{
-    out.begin_map(Some(2))?;
-    out.key("error")?;
-    error.send(alloc, out)?;
-    end_with_text("type", "hello_error", out)
-}
-
 fn send_ok<S: Serializer>(
     alloc: Global,
     request_id: i32,
@@ -107,7 +76,7 @@ fn send_ok<S: Serializer>(
     out.begin_map(Some(3))?;
     send_id("request_id", request_id, out)?;
     out.key("response")?;
-    send_response(alloc, kind, reply, out)?;
+    send_response(alloc, kind_name(kind), reply, out)?;
     end_with_text("type", "response_ok", out)
 }
 
@@ -136,7 +105,7 @@ impl JsonText for ServerMsg {
     fn send<S: Serializer>(&self, alloc: Global, out: &mut S) -> Result<(), S::Error> {
         match self {
             ServerMsg::HelloOk => send_text_member("type", "hello_ok", out),
-            ServerMsg::HelloError(error) => send_hello_error(alloc, error, out),
+            ServerMsg::HelloError(error) => send_error_as(alloc, "hello_error", error, out),
             ServerMsg::Ok {
                 request_id,
                 kind,

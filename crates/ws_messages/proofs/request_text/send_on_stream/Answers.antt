@@ -1,7 +1,6 @@
 use Rattle.std.proofs.lemmas.Result.{on_ok_weaker}
 use Rattle.std.proofs.Common.{subst, ap, ◌∙◌}
 use Rattle.serde_json.specs.Events.{SendsMembers}
-use Rattle.hrana_value.specs.Whole.{PartsWhole}
 use Rattle.stream_requests.specs.Asks.{ask_kind}
 use Rattle.ws_messages.specs.Kinds.{kind_of}
 use Rattle.ws_messages.specs.WrittenClient.{on_stream}
@@ -18,5 +17,4 @@ returns-clause-sends g c =
 pub returns-clause-whole : goal.returns-clause-whole
 returns-clause-whole g c =
     let a = c.args.ask.now in let s = c.args.stream_id in
-    on_ok_weaker c.end_on_stream.result (λ p. asked_whole a s (kind_of (ask_kind a)) c.in_ok-send_ask.ensures.whole
-    (subst (λ k. PartsWhole (on_stream s k)) (c.kind_of.ensures ∙ ap kind_of c.kind.ensures) (stream_whole s c.kind_of.result c.ranges.stream_id p))) c.end_on_stream.ensures.whole
+    on_ok_weaker c.end_on_stream.result (λ e. asked_whole a s (kind_of (ask_kind a)) c.in_ok-send_ask.ensures.whole (stream_whole s (kind_of (ask_kind a)) c.ranges.stream_id)) c.end_on_stream.ensures.sends

@@ -13,4 +13,4 @@ returns-clause-sends g c =
 
 pub returns-clause-whole : goal.returns-clause-whole
 returns-clause-whole g c =
-    on_ok_weaker c.end_on_stream.result (λ p. whole_object (on_stream c.args.stream_id OpenStream) refl (stream_whole c.args.stream_id OpenStream c.ranges.stream_id p)) c.end_on_stream.ensures.whole
+    on_ok_weaker c.end_on_stream.result (λ e. whole_object (on_stream c.args.stream_id OpenStream) refl (stream_whole c.args.stream_id OpenStream c.ranges.stream_id)) c.end_on_stream.ensures.sends
