@@ -8,11 +8,15 @@ mod batons;
 #[cfg(test)]
 mod dialect;
 #[cfg(test)]
+mod hub;
+#[cfg(test)]
 mod journal;
 #[cfg(test)]
 mod keeper;
 #[cfg(test)]
 mod outside;
+#[cfg(test)]
+mod played;
 #[cfg(test)]
 mod replay;
 #[cfg(test)]

@@ -1,11 +1,9 @@
 // Whole runs of the top call over memory.
-ghost use Rattle.engine_core.specs.Transactions.{NoneLive};
-
-use engine_core::{ByteSink, ByteSource, Engine, Failing, NoMemory, PlainKeeper, Sink};
-use hrana_serve::{Ended, Status, World, hrana};
+use crate::played::{Faults, Wanted, compare, play};
+use engine_core::{Failing, NoMemory, PlainKeeper};
+use hrana_serve::Status;
 use memory_keeper::MemoryKeeper;
 use std::alloc::Global;
-use std::process::Abort;
 use std::test::Fail;
 
 const HELLO: &str = "\
@@ -74,54 +72,6 @@ fn answers_of(
     Ok(format!(in alloc; "{OPEN_OUT}{second}{third}")?)
 }
 
-fn play<E: Engine + Drop>(
-    alloc: Global,
-    word: &str,
-    script: &str,
-    read_fault: u64,
-    write_fault: u64,
-    engine: E,
-) -> Result<(Ended, ByteSink), NoMemory>
-    requires { NoneLive (E.live engine) }
-{
-    let mut world = World {
-        source: ByteSource::new(alloc, script.as_bytes(), &[read_fault])?,
-        sink: ByteSink::new(alloc, &[write_fault])?,
-        engine,
-    };
-    let ended = hrana(alloc, &[word], &mut world);
-    let World { sink, .. } = world;
-    Ok((ended, sink))
-}
-
-/// What a run is to end with.
-#[derive(Clone, Copy)]
-struct Wanted<'a> {
-    status: Status,
-    events: u64,
-    entries: usize,
-    out: &'a str,
-}
-
-/// Plays the script, where the read and the write of these numbers fail, and compares how it ended and what was written.
-fn compare<E: Engine + Drop>(
-    rt: &impl Abort,
-    alloc: Global,
-    script: &str,
-    read_fault: u64,
-    write_fault: u64,
-    engine: E,
-    wanted: Wanted,
-) -> Result<(), Fail>
-    requires { NoneLive (E.live engine) }
-{
-    let (ended, sink) = play(alloc, "replay", script, read_fault, write_fault, engine)?;
-    let end = (ended.status, ended.events, ended.unsaved.len());
-    assert_eq!(rt; sink.bytes(), wanted.out.as_bytes());
-    assert_eq!(rt; end, (wanted.status, wanted.events, wanted.entries));
-    Ok(())
-}
-
 #[test]
 fn events_are_answered(rt: HostRuntime) -> Result<(), Fail> {
     let alloc = rt.alloc();
@@ -130,25 +80,24 @@ fn events_are_answered(rt: HostRuntime) -> Result<(), Fail> {
     for (tail, status, events) in [
         ("", Status::Done, 7),
         ("\n! 1\n\n! 2", Status::Done, 9),
-        ("+ 2\n", Status::BadScript { line: 8 }, 7),
+        ("- 3\n", Status::Done, 8),
+        ("+ 1\n", Status::BadScript { line: 8 }, 7),
+        ("+ 0\n", Status::BadScript { line: 8 }, 7),
+        ("+ 4294967296\n", Status::BadScript { line: 8 }, 7),
+        ("> 2 {}\n", Status::BadScript { line: 8 }, 7),
+        ("# 2\n", Status::BadScript { line: 8 }, 7),
+        ("> 1\n", Status::BadScript { line: 8 }, 7),
         ("\nhello", Status::BadScript { line: 9 }, 7),
         ("! 01\n", Status::BadScript { line: 8 }, 7),
-        ("> 1 {\n", Status::BadScript { line: 8 }, 7),
-        (
-            "> 1 {\"type\":\"hello\"}\n",
-            Status::BadScript { line: 8 },
-            7,
-        ),
-        (
-            "> 1 {\"type\":\"other\"}\n",
-            Status::BadScript { line: 8 },
-            7,
-        ),
+        ("-  1\n", Status::BadScript { line: 8 }, 7),
+        ("@ 5\n", Status::BadScript { line: 8 }, 7),
+        ("? 1 GET /v3 -\n", Status::BadScript { line: 8 }, 7),
     ] {
         let wanted = Wanted {
             status,
             events,
-            entries: 2,
+            noted: 2,
+            unsaved: 0,
             out: out.as_str(),
         };
         let script = format!(in alloc; "{script}{tail}")?;
@@ -156,8 +105,7 @@ fn events_are_answered(rt: HostRuntime) -> Result<(), Fail> {
             &rt,
             alloc,
             script.as_str(),
-            0,
-            0,
+            Faults::NONE,
             PlainKeeper::new(alloc)?,
             wanted,
         )?;
@@ -172,46 +120,69 @@ fn short_scripts_are_done(rt: HostRuntime) -> Result<(), Fail> {
         let wanted = Wanted {
             status: Status::Done,
             events,
-            entries: 0,
+            noted: 0,
+            unsaved: 0,
             out,
         };
-        compare(&rt, alloc, script, 0, 0, PlainKeeper::new(alloc)?, wanted)?;
+        compare(&rt, alloc, script, Faults::NONE, PlainKeeper::new(alloc)?, wanted)?;
     }
     Ok(())
 }
 
-#[test]
-fn words_of_no_form_are_bad(rt: HostRuntime) -> Result<(), Fail> {
-    let keeper = PlainKeeper::new(rt.alloc())?;
-    let (ended, _) = play(rt.alloc(), "play", HELLO, 0, 0, keeper)?;
-    assert_eq!(rt; ended.status, Status::BadWords);
-    Ok(())
+/// A word of this many letters.
+fn long_word(alloc: Global, length: usize) -> Result<String, NoMemory> {
+    let mut word = String::new(alloc);
+    for _ in 0..length {
+        word.push('x')?;
+    }
+    Ok(word)
 }
 
 #[test]
-fn statements_that_are_not_built_are_bad(rt: HostRuntime) -> Result<(), Fail> {
+fn words_of_no_form_are_bad(rt: HostRuntime) -> Result<(), Fail> {
     let alloc = rt.alloc();
-    for stmt in [
-        "{\"sql_id\":1}",
-        "{\"sql\":\"ROLLBACK; SELECT a FROM t\"}",
-        "{\"sql\":\"SELECT ?, ?\",\"args\":[{\"type\":\"float\",\"value\":1.5},{\"type\":\"null\"}]}",
+    let longest = long_word(alloc, 4096)?;
+    let longer = long_word(alloc, 4097)?;
+    for (words, status) in [
+        (["play", "x"], Status::BadWords),
+        (["replay", ""], Status::BadWords),
+        (["replay", longest.as_str()], Status::Done),
+        (["replay", longer.as_str()], Status::BadWords),
     ] {
-        let script = script_of(alloc, stmt, SELECT)?;
-        let wanted = Wanted {
-            status: Status::BadScript { line: 4 },
-            events: 3,
-            entries: 0,
-            out: OPEN_OUT,
-        };
-        compare(
-            &rt,
+        let keeper = PlainKeeper::new(alloc)?;
+        let played = play(alloc, &words, "+ 1", Faults::NONE, keeper)?;
+        assert_eq!(rt; played.ended.status, status);
+    }
+    let keeper = PlainKeeper::new(alloc)?;
+    let none = play(alloc, &[], "", Faults::NONE, keeper)?;
+    assert_eq!(rt; none.ended.status, Status::BadWords);
+    Ok(())
+}
+
+const WELCOME: &str = "< 1 {\"type\":\"hello_ok\"}\n";
+
+const NO_WELCOME: &str = "< 1 {\"error\":{\"code\":\"AUTH\",\"message\":\"authentication failed\"},\"type\":\"hello_error\"}\nx 1 1000\n";
+
+#[test]
+fn a_token_is_the_one_that_was_given(rt: HostRuntime) -> Result<(), Fail> {
+    let alloc = rt.alloc();
+    for (token, out) in [
+        ("\"jwt\":\"secret\",", WELCOME),
+        ("\"jwt\":\"Secret\",", NO_WELCOME),
+        ("\"jwt\":\"secre\",", NO_WELCOME),
+        ("\"jwt\":null,", NO_WELCOME),
+        ("", NO_WELCOME),
+    ] {
+        let script = format!(in alloc; "+ 1\n> 1 {{{token}\"type\":\"hello\"}}\n")?;
+        let keeper = PlainKeeper::new(alloc)?;
+        let played = play(
             alloc,
+            &["replay", "secret"],
             script.as_str(),
-            0,
-            0,
-            PlainKeeper::new(alloc)?,
-            wanted,
+            Faults::NONE,
+            keeper,
         )?;
+        assert_eq!(rt; played.sink.bytes(), out.as_bytes());
     }
     Ok(())
 }
@@ -291,54 +262,73 @@ fn sql_is_answered(rt: HostRuntime) -> Result<(), Fail> {
     let wanted = Wanted {
         status: Status::Done,
         events: 37,
-        entries: 10,
+        noted: 10,
+        unsaved: 0,
         out: out.as_str(),
     };
     compare(
         &rt,
         alloc,
         script.as_str(),
-        0,
-        0,
+        Faults::NONE,
         MemoryKeeper::new(alloc)?,
         wanted,
     )
 }
 
-/// A statement whose one value is a text of this length.
-fn select_text(alloc: Global, length: usize) -> Result<String, NoMemory> {
-    let mut text = String::new(alloc);
-    for _ in 0..length {
-        text.push('x')?;
-    }
+/// An insert of a text of this length.
+fn insert_text(alloc: Global, length: usize) -> Result<String, NoMemory> {
+    let text = long_word(alloc, length)?;
     Ok(format!(in alloc;
-        "{{\"sql\":\"SELECT ?\",\"args\":[{{\"type\":\"text\",\"value\":\"{text}\"}}]}}"
+        "{{\"sql\":\"INSERT INTO t VALUES (?)\",\"args\":[{{\"type\":\"text\",\"value\":\"{text}\"}}]}}"
     )?)
 }
 
 #[test]
 fn a_large_result_is_refused(rt: HostRuntime) -> Result<(), Fail> {
     let alloc = rt.alloc();
-    // A text counts 8 and its length: one more than 1,048,576 bytes.
-    let stmt = select_text(alloc, 1048569)?;
-    let script = script_of(alloc, stmt.as_str(), "{\"sql\":\"SELECT\"}")?;
-    let out = answers_of(
-        alloc,
-        ("RESULT_TOO_LARGE", "result is too large"),
-        ("SYNTAX", "statement is not understood"),
-    )?;
+    let mut script = format!(in alloc; "{OPEN}")?;
+    let mut out = format!(in alloc; "{OPEN_OUT}")?;
+    let create = (
+        "CREATE TABLE t (a)",
+        "",
+        "{\"affected_row_count\":0,\"cols\":[],\"last_insert_rowid\":null,\"rows\":[]}",
+    );
+    add_statement(alloc, &mut script, &mut out, 0, create)?;
+    // A text counts 8 and its length, and a result has at most 1,048,576 bytes.
+    let insert = insert_text(alloc, 220000)?;
+    for id in 1..6 {
+        script.push_str(execute(alloc, id, insert.as_str())?.as_str())?;
+        let inserted = format!(in alloc;
+            "{{\"affected_row_count\":1,\"cols\":[],\"last_insert_rowid\":\"{id}\",\"rows\":[]}}"
+        )?;
+        out.push_str(reply(alloc, id, "", inserted.as_str())?.as_str())?;
+    }
+    for (id, row) in [
+        (
+            6,
+            (
+                "SELECT a FROM t",
+                "RESULT_TOO_LARGE",
+                "result is too large",
+            ),
+        ),
+        (7, ("SELECT", "SYNTAX", "statement is not understood")),
+    ] {
+        add_statement(alloc, &mut script, &mut out, id, row)?;
+    }
     let wanted = Wanted {
         status: Status::Done,
-        events: 7,
-        entries: 2,
+        events: 19,
+        noted: 8,
+        unsaved: 0,
         out: out.as_str(),
     };
     compare(
         &rt,
         alloc,
         script.as_str(),
-        0,
-        0,
+        Faults::NONE,
         MemoryKeeper::new(alloc)?,
         wanted,
     )
@@ -356,15 +346,15 @@ fn unwanted_rows_are_left_out(rt: HostRuntime) -> Result<(), Fail> {
     let wanted = Wanted {
         status: Status::Done,
         events: 7,
-        entries: 2,
+        noted: 2,
+        unsaved: 0,
         out: out.as_str(),
     };
     compare(
         &rt,
         alloc,
         script.as_str(),
-        0,
-        0,
+        Faults::NONE,
         PlainKeeper::new(alloc)?,
         wanted,
     )
@@ -383,44 +373,46 @@ fn no_33rd_request_waits(rt: HostRuntime) -> Result<(), Fail> {
     let wanted = Wanted {
         status: Status::BadScript { line: 36 },
         events: 35,
-        entries: 0,
+        noted: 0,
+        unsaved: 0,
         out: OPEN_OUT,
     };
     compare(
         &rt,
         alloc,
         script.as_str(),
-        0,
-        0,
+        Faults::NONE,
         PlainKeeper::new(alloc)?,
         wanted,
     )
 }
 
 #[test]
-fn faults_of_reads_and_writes_end_the_run(rt: HostRuntime) -> Result<(), Fail> {
+fn faults_of_source_sink_and_journal_end_the_run(rt: HostRuntime) -> Result<(), Fail> {
     let alloc = rt.alloc();
     let script = script_of(alloc, INSERT, SELECT)?;
-    // The source is read in two calls, of which the second finds the end.
-    for (read, write, status, out, events, entries) in [
-        (1, 0, Status::ReadFault, "", 0, 0),
-        (2, 0, Status::ReadFault, "", 0, 0),
-        (0, 1, Status::WriteFault, "", 2, 0),
-        (0, 2, Status::WriteFault, HELLO_OUT, 3, 0),
-        (0, 3, Status::WriteFault, OPEN_OUT, 5, 1),
+    // The source is read in two calls, of which the second finds the end. Two entries are noted.
+    for (read, write, note, status, out, counts) in [
+        (1, 0, 0, Status::ReadFault, "", (0, 0, 0)),
+        (2, 0, 0, Status::ReadFault, "", (0, 0, 0)),
+        (0, 1, 0, Status::WriteFault, "", (2, 0, 0)),
+        (0, 2, 0, Status::WriteFault, HELLO_OUT, (3, 0, 0)),
+        (0, 3, 0, Status::WriteFault, OPEN_OUT, (5, 1, 0)),
+        (0, 0, 1, Status::JournalFault, OPEN_OUT, (5, 0, 1)),
+        (0, 3, 1, Status::JournalFault, OPEN_OUT, (5, 0, 1)),
     ] {
         let wanted = Wanted {
             status,
-            events,
-            entries,
+            events: counts.0,
+            noted: counts.1,
+            unsaved: counts.2,
             out,
         };
         compare(
             &rt,
             alloc,
             script.as_str(),
-            read,
-            write,
+            Faults { read, write, note },
             PlainKeeper::new(alloc)?,
             wanted,
         )?;
@@ -439,11 +431,12 @@ fn faults_of_an_engine_are_answered(rt: HostRuntime) -> Result<(), Fail> {
         let wanted = Wanted {
             status: Status::Done,
             events: 7,
-            entries: 2,
+            noted: 2,
+            unsaved: 0,
             out: out.as_str(),
         };
         let engine = Failing::new(alloc, PlainKeeper::new(alloc)?, &[at])?;
-        compare(&rt, alloc, script.as_str(), 0, 0, engine, wanted)?;
+        compare(&rt, alloc, script.as_str(), Faults::NONE, engine, wanted)?;
     }
     Ok(())
 }
