@@ -1,0 +1,11 @@
+pub mod MapLemmas
+pub mod TextLemmas
+pub mod EntryLemmas
+pub mod Agreeing
+pub mod Adding
+pub mod Ending
+pub mod Polling
+pub mod Stepping
+pub mod ArrivalLemmas
+pub mod ArrivalAgreeing
+pub mod CallLemmas

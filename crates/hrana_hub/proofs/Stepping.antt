@@ -1,0 +1,97 @@
+-- An event is counted, and comes.
+use Rattle.std.proofs.Common.{◌≡◌, ◌≤◌, ◌<◌, ◌+◌, ◌-◌, ◌^◌, ◌&&◌, ◌⊎◌, ℕ, Bool, true, false, not, nat_lt, List, [], length, Option, None, Some, MatchBool, refl, sym, ap, ◌∙◌, subst, arith, inl, inr}
+use Rattle.std.proofs.lemmas.Bool.{ltb-true}
+use Rattle.http_wire.specs.declared.outs.Outs.{Outs}
+use Rattle.engine_core.specs.Transactions.{Lives}
+use Rattle.engine_core.specs.declared.entries.Entry.{Entry}
+use Rattle.engine_core.specs.declared.entries.Undo.TheVariants as undo
+use Rattle.hrana_hub.specs.declared.events.Event.{Event}
+use Rattle.hrana_hub.specs.declared.events.Event.TheVariants.{Opened, Text, Binary, Lost, Poll, Stop}
+use Rattle.hrana_hub.specs.declared.limits.TheConstants.{MAX_EVENTS, MAX_CONNECTIONS}
+use Rattle.hrana_hub.specs.Maps.{at}
+use Rattle.hrana_hub.specs.State.{Conn, State, Seen, with_state}
+use Rattle.hrana_hub.specs.Adds.{Adds}
+use Rattle.hrana_hub.specs.Agrees.{HubAgrees, IsCounted, IsAhead}
+use Rattle.hrana_hub.specs.Arrivals.{nothing, closing, quiet}
+use Rattle.hrana_hub.specs.Ended.{all_ends, at_its_end}
+use Rattle.hrana_hub.specs.Step.{Step, Comes, Goes, Heard, LostAt, BinarySteps, is_short, fits, may_come, may_send, is_unknown, counted, has_room, with_new_conn}
+use Rattle.hrana_hub.proofs.Agreeing.{same_agrees}
+
+-- ---- what fits
+
+and_left : (a b : Bool) → (a && b) ≡ true → a ≡ true
+and_left true b e = refl
+and_left false b e = absurd (cc)
+
+and_right : (a b : Bool) → (a && b) ≡ true → b ≡ true
+and_right true b e = e
+and_right false b e = absurd (cc)
+
+pub fits_comes : (s : State) (event : Event) → fits s event ≡ true → may_come s event ≡ true
+fits_comes s event e = and_right (not s.stopped && nat_lt s.events MAX_EVENTS) (may_come s event) e
+
+pub fits_few : (s : State) (event : Event) → fits s event ≡ true → s.events < MAX_EVENTS
+fits_few s event e = ltb-true s.events MAX_EVENTS (and_right (not s.stopped) (nat_lt s.events MAX_EVENTS) (and_left (not s.stopped && nat_lt s.events MAX_EVENTS) (may_come s event) e))
+
+-- that it was counted makes no odds to what may come
+pub comes_counted : (s : State) (event : Event) → may_come (counted s) event ≡ may_come s event
+comes_counted s (Opened c) = refl
+comes_counted s (Text c text) = refl
+comes_counted s (Binary c) = refl
+comes_counted s (Lost c) = refl
+comes_counted s (Poll stream) = refl
+comes_counted s Stop = refl
+
+pub counted_ahead : (s : State) → IsCounted s → s.events < MAX_EVENTS → IsAhead (counted s)
+counted_ahead s c l = record { streams = omega (arith, c.streams); units = omega (arith, c.units); commits = omega (arith, c.commits); few = omega (arith, l) }
+
+pub counted_agrees : {D : Type 0} (told shared : Bool) (db : D) (live : Lives D) (h : Seen) → HubAgrees told shared db live h → HubAgrees told shared db live (with_state (counted h.state) h)
+counted_agrees told shared db live h a = same_agrees told shared db live h (with_state (counted h.state) h) a (record { streams_are = refl; opened = refl; next = refl; version = refl; events = omega arith; turns = refl; noted = refl; places = omega arith })
+
+unknown : (o : Option Conn) → is_unknown o ≡ true → o ≡ None
+unknown None e = refl
+unknown (Some k) e = absurd (cc)
+
+pub opens_unknown : (s : State) (c : ℕ) → may_come s (Opened c) ≡ true → at c s.conns ≡ None
+opens_unknown s c e = unknown (at c s.conns) (and_right (nat_lt 0 c) (is_unknown (at c s.conns)) (and_left (nat_lt 0 c && is_unknown (at c s.conns)) (nat_lt (length s.conns) MAX_CONNECTIONS) e))
+
+pub opens_few : (s : State) (c : ℕ) → may_come s (Opened c) ≡ true → length s.conns < MAX_CONNECTIONS
+opens_few s c e = ltb-true (length s.conns) MAX_CONNECTIONS (and_right (nat_lt 0 c && is_unknown (at c s.conns)) (nat_lt (length s.conns) MAX_CONNECTIONS) e)
+
+pub sends_room : (s : State) (c : ℕ) (k : Conn) → may_send (at c s.conns) ≡ true → at c s.conns ≡ Some k → has_room k ≡ true
+sends_room s c k e f = sym (ap may_send f) ∙ e
+
+-- ---- the step
+
+-- what came of the event once it was counted
+pub step_adds : (told shared : Bool) (f g : ℕ) (old mid new : Seen) (event : Event) (out : Outs) → mid ≡ with_state (counted old.state) old → Adds told f g mid new (λ added. Comes mid.token shared mid.state event added out new.state) → Adds told f g old new (λ added. Step old.token shared old.state event added out new.state)
+step_adds told shared f g old mid new event out is a = subst (λ (h : Seen). Adds told f g h new (λ added. Comes h.token shared h.state event added out new.state)) is a
+
+-- ---- what gives no close with 1011
+
+long : (out : Outs) (A B : Type 0) → is_short out ≡ false → B → MatchBool (is_short out) A B
+long out A B e b = subst (λ c. MatchBool c A B) (sym e) b
+
+pub opened_comes : (token : Option (List ℕ)) (shared : Bool) (s new : State) (c : ℕ) (out : Outs) → out ≡ nothing → new ≡ with_new_conn c false s → Comes token shared s (Opened c) [] out new
+opened_comes token shared s new c out given left = long out _ _ (ap is_short given) (record { none = refl; given = given; left = left })
+
+binary_gives : (s new : State) (c : ℕ) (o : Option Conn) (out : Outs) → Heard s o (λ k. Goes (closing c k None 1003 s) [] out new) [] out new → is_short out ≡ false
+binary_gives s new c None out h = ap is_short h.given
+binary_gives s new c (Some k) out h = by k.closing h
+  where
+    by : (b : Bool) → MatchBool b (Goes (quiet s) [] out new) (Goes (closing c k None 1003 s) [] out new) → is_short out ≡ false
+    by true g = ap is_short g.given
+    by false g = ap is_short g.given
+
+pub binary_comes : (token : Option (List ℕ)) (shared : Bool) (s new : State) (c : ℕ) (out : Outs) → BinarySteps s c out new → Comes token shared s (Binary c) [] out new
+binary_comes token shared s new c out h = long out _ _ (binary_gives s new c (at c s.conns) out h) h
+
+lost_gives : (s new : State) (c : ℕ) (o : Option Conn) (added : List Entry) (out : Outs) → LostAt s c o added out new → is_short out ≡ false
+lost_gives s new c None added out h = ap is_short h.given
+lost_gives s new c (Some k) added out h = ap is_short h.1
+
+pub lost_comes : (token : Option (List ℕ)) (shared : Bool) (s new : State) (c : ℕ) (added : List Entry) (out : Outs) → LostAt s c (at c s.conns) added out new → Comes token shared s (Lost c) added out new
+lost_comes token shared s new c added out h = long out _ _ (lost_gives s new c (at c s.conns) added out h) h
+
+pub stop_comes : (token : Option (List ℕ)) (shared : Bool) (s new : State) (added : List Entry) (out : Outs) → (added ≡ all_ends undo.Stop s.streams) × (out ≡ nothing) × (new ≡ at_its_end s) → Comes token shared s Stop added out new
+stop_comes token shared s new added out h = long out _ _ (ap is_short h.1) h

@@ -1,0 +1,46 @@
+use Rattle.std.proofs.Common.{◌≡◌, ◌∙◌, Some, refl, sym, ap, subst, take}
+use Rattle.hrana_hub.specs.State.{Seen}
+use Rattle.hrana_hub.specs.Adds.{Adds}
+use Rattle.hrana_hub.specs.Agrees.{HubAgrees}
+use Rattle.hrana_hub.specs.Ended.{all_ends}
+use Rattle.hrana_hub.specs.contracts.hub.Hub.{the_view}
+use Rattle.hrana_hub.proofs.Adding.{adds_as}
+use Rattle.hrana_hub.proofs.Ending.{EndDid, may_poll, end_room, end_adds, end_agrees, at_head, without_head, end_of_head}
+use Rattle.hrana_hub.proofs.hub.Hub.end_first.Given as given
+use Rattle.hrana_hub.proofs.hub.Hub.end_first.Goals as goal
+
+abbrev after : (g : given.Over) → goal.After-end g → Seen
+after g c = the_view (record { alloc = c.self.inside.alloc; token = c.self.inside.token; conns = c.self.inside.conns; slots = c.pop_first.new.self; opened = c.self.inside.opened; events = c.self.inside.events; stopped = c.self.inside.stopped; turns = c.end.new.turns; entries = c.end.new.entries })
+
+did : (g : given.Over) (c : goal.After-end g) → EndDid g.E.Engine.told g.E.Engine.SHARED g.E.Engine.meaning g.E.Engine.db g.E.Engine.live g.E.Engine.faults c.args.engine.now c.end.new.engine c.args.why c.in-Some._number c.in-Some.slot (the_view c.self.inside) (after g c)
+did g c = record {
+  agrees = subst (λ h. HubAgrees g.E.Engine.told g.E.Engine.SHARED (g.E.Engine.db c.args.engine.now) (g.E.Engine.live c.args.engine.now) h) (sym c.self.view_is) c.requires;
+  known = at_head (c.in-Some._number, c.in-Some.slot) c.self.inside.slots.entries c.pop_first.new.self.entries c.in-Some.ensures.removal;
+  ended = c.end.ensures.ended;
+  spare = c.end.ensures.spare;
+  conns = refl;
+  streams = without_head (c.in-Some._number, c.in-Some.slot) c.self.inside.slots.entries c.pop_first.new.self.entries c.in-Some.ensures.removal;
+  opened = refl;
+  next = refl;
+  version = refl;
+  events = refl;
+  stopped = refl;
+}
+
+pub end-requires-clause-may : goal.end-requires-clause-may
+end-requires-clause-may g c = may_poll _ _ _ _ (the_view c.self.inside) c.in-Some._number c.in-Some.slot c.streams_agree.ensures.polls (subst (λ h. HubAgrees g.E.Engine.told g.E.Engine.SHARED (g.E.Engine.db c.args.engine.now) (g.E.Engine.live c.args.engine.now) h) (sym c.self.view_is) c.requires)
+    (at_head (c.in-Some._number, c.in-Some.slot) c.self.inside.slots.entries c.pop_first.new.self.entries c.in-Some.ensures.removal)
+
+pub end-requires-clause-room : goal.end-requires-clause-room
+end-requires-clause-room g c = end_room g.E.Engine.told g.E.Engine.SHARED (g.E.Engine.db c.args.engine.now) (g.E.Engine.live c.args.engine.now) (the_view c.self.inside) c.in-Some._number c.in-Some.slot (subst (λ h. HubAgrees g.E.Engine.told g.E.Engine.SHARED (g.E.Engine.db c.args.engine.now) (g.E.Engine.live c.args.engine.now) h) (sym c.self.view_is) c.requires)
+    (at_head (c.in-Some._number, c.in-Some.slot) c.self.inside.slots.entries c.pop_first.new.self.entries c.in-Some.ensures.removal)
+
+pub returns-in-Some-clause-adds : goal.returns-in-Some-clause-adds
+returns-in-Some-clause-adds g c =
+    subst (λ h. Adds g.E.Engine.told (g.E.Engine.faults c.args.engine.now) (g.E.Engine.faults c.end.new.engine) h (after g c) (λ added. added ≡ all_ends c.args.why (take 1 h.state.streams))) c.self.view_is
+    (adds_as g.E.Engine.told _ _ (the_view c.self.inside) (the_view c.self.inside) (after g c) (after g c) _ (λ added. added ≡ all_ends c.args.why (take 1 c.self.inside.slots.entries)) refl refl
+    (λ added e. e ∙ end_of_head c.args.why (c.in-Some._number, c.in-Some.slot) c.self.inside.slots.entries c.pop_first.new.self.entries c.in-Some.ensures.removal)
+    (end_adds g.E.Engine.told g.E.Engine.SHARED g.E.Engine.meaning g.E.Engine.db g.E.Engine.live g.E.Engine.faults c.args.engine.now c.end.new.engine c.args.why c.in-Some._number c.in-Some.slot (the_view c.self.inside) (after g c) (did g c)))
+
+pub returns-in-Some-clause-agrees : goal.returns-in-Some-clause-agrees
+returns-in-Some-clause-agrees g c = end_agrees g.E.Engine.told g.E.Engine.SHARED g.E.Engine.meaning g.E.Engine.db g.E.Engine.live g.E.Engine.faults c.args.engine.now c.end.new.engine c.args.why c.in-Some._number c.in-Some.slot (the_view c.self.inside) (after g c) (did g c) c.ends_keep_agreement.ensures
