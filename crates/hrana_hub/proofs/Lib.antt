@@ -1,6 +1,7 @@
 pub mod MapLemmas
 pub mod TextLemmas
 pub mod EntryLemmas
+pub mod Waiting
 pub mod Agreeing
 pub mod Adding
 pub mod Ending

@@ -13,7 +13,7 @@ use crate::hub::Hub;
 use crate::outs::nothing;
 use engine_core::{Engine, Undo};
 use http_wire::Outs;
-use stream_task::{ends_keep_agreement, streams_agree};
+use stream_task::{ends_keep_agreement, ends_lead_on, streams_agree};
 
 impl Hub {
     /// Ends one stream and lets go of it. It holds no turn then, and waits for none.
@@ -28,6 +28,7 @@ impl Hub {
     {
         streams_agree::<E>();
         ends_keep_agreement::<E>();
+        ends_lead_on::<E>();
         if let Some(slot) = self.slots.remove(&stream) {
             slot.end(engine, &mut self.turns, &mut self.entries, why);
         }
@@ -44,6 +45,7 @@ impl Hub {
     {
         streams_agree::<E>();
         ends_keep_agreement::<E>();
+        ends_lead_on::<E>();
         if let Some((_number, slot)) = self.slots.pop_first() {
             slot.end(engine, &mut self.turns, &mut self.entries, why);
         }

@@ -16,7 +16,7 @@ use engine_core::{Engine, Undo};
 use hrana_value::{NoMemory, StreamNo};
 use http_wire::Outs;
 use stream_requests::Reply;
-use stream_task::{Poll, Stepped, polls_keep_agreement, streams_agree};
+use stream_task::{Poll, Stepped, polls_keep_agreement, polls_lead_on, streams_agree};
 
 impl Hub {
     /// Makes places for a poll's entry and for the ends of all units.
@@ -43,6 +43,7 @@ impl Hub {
     {
         streams_agree::<E>();
         polls_keep_agreement::<E>();
+        polls_lead_on::<E>();
         match self.slots.get_mut(&stream) {
             Some(slot) => slot.poll(engine, &mut self.turns, &mut self.entries),
             None => Poll::Ready(Stepped::Idle),

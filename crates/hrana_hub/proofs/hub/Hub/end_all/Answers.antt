@@ -13,7 +13,7 @@ loop-preserved g c =
     let es = c.loop.self.state.streams in
     let rest : c.end_first.new.self.state.streams ≡ drop 1 es = ap (λ (s : State). s.streams) c.end_first.ensures.state in
     record {
-      adds = adds_on g.E.Engine.told _ _ _ c.args.self.now c.loop.self c.end_first.new.self _ _ (λ added. all_ends c.args.why all ≡ added ++ all_ends c.args.why c.end_first.new.self.state.streams)
+      adds = adds_on _ _ _ c.args.self.now c.loop.self c.end_first.new.self _ _ (λ added. all_ends c.args.why all ≡ added ++ all_ends c.args.why c.end_first.new.self.state.streams)
           c.loop.invariant.later c.end_first.ensures.later c.loop.invariant.adds c.end_first.ensures.adds
           (λ done one e f. ends_on c.args.why _ done one es e f ∙ ap (λ l. (done ++ one) ++ all_ends c.args.why l) (sym rest));
       left = rest ∙ ap (drop 1) c.loop.invariant.left ∙ drop-drop 1 c.loop.counter all;

@@ -37,10 +37,10 @@ end-requires-clause-room g c = end_room g.E.Engine.told g.E.Engine.SHARED (g.E.E
 
 pub returns-in-Some-clause-adds : goal.returns-in-Some-clause-adds
 returns-in-Some-clause-adds g c =
-    subst (λ h. Adds g.E.Engine.told (g.E.Engine.faults c.args.engine.now) (g.E.Engine.faults c.end.new.engine) h (after g c) (λ added. added ≡ all_ends c.args.why (take 1 h.state.streams))) c.self.view_is
-    (adds_as g.E.Engine.told _ _ (the_view c.self.inside) (the_view c.self.inside) (after g c) (after g c) _ (λ added. added ≡ all_ends c.args.why (take 1 c.self.inside.slots.entries)) refl refl
+    subst (λ h. Adds g.E.Engine.told g.E.Engine.SHARED g.E.Engine.meaning g.E.Engine.db g.E.Engine.live g.E.Engine.faults c.args.engine.now c.end.new.engine h (after g c) (λ added. added ≡ all_ends c.args.why (take 1 h.state.streams))) c.self.view_is
+    (adds_as c.args.engine.now c.end.new.engine (the_view c.self.inside) (after g c) _ (λ added. added ≡ all_ends c.args.why (take 1 c.self.inside.slots.entries))
     (λ added e. e ∙ end_of_head c.args.why (c.in-Some._number, c.in-Some.slot) c.self.inside.slots.entries c.pop_first.new.self.entries c.in-Some.ensures.removal)
-    (end_adds g.E.Engine.told g.E.Engine.SHARED g.E.Engine.meaning g.E.Engine.db g.E.Engine.live g.E.Engine.faults c.args.engine.now c.end.new.engine c.args.why c.in-Some._number c.in-Some.slot (the_view c.self.inside) (after g c) (did g c)))
+    (end_adds g.E.Engine.told g.E.Engine.SHARED g.E.Engine.meaning g.E.Engine.db g.E.Engine.live g.E.Engine.faults c.args.engine.now c.end.new.engine c.args.why c.in-Some._number c.in-Some.slot (the_view c.self.inside) (after g c) (did g c) c.ends_lead_on.ensures))
 
 pub returns-in-Some-clause-agrees : goal.returns-in-Some-clause-agrees
 returns-in-Some-clause-agrees g c = end_agrees g.E.Engine.told g.E.Engine.SHARED g.E.Engine.meaning g.E.Engine.db g.E.Engine.live g.E.Engine.faults c.args.engine.now c.end.new.engine c.args.why c.in-Some._number c.in-Some.slot (the_view c.self.inside) (after g c) (did g c) c.ends_keep_agreement.ensures

@@ -35,8 +35,8 @@ end-requires-clause-room g c = end_room g.E.Engine.told g.E.Engine.SHARED (g.E.E
 
 pub returns-in-Some-clause-adds : goal.returns-in-Some-clause-adds
 returns-in-Some-clause-adds g c =
-    subst (λ h. Adds g.E.Engine.told (g.E.Engine.faults c.args.engine.now) (g.E.Engine.faults c.end.new.engine) h (after g c) (λ added. added ≡ end_of c.args.why (at c.args.stream h.state.streams))) c.self.view_is
-    (end_adds g.E.Engine.told g.E.Engine.SHARED g.E.Engine.meaning g.E.Engine.db g.E.Engine.live g.E.Engine.faults c.args.engine.now c.end.new.engine c.args.why c.args.stream c.in-Some.slot (the_view c.self.inside) (after g c) (did g c))
+    subst (λ h. Adds g.E.Engine.told g.E.Engine.SHARED g.E.Engine.meaning g.E.Engine.db g.E.Engine.live g.E.Engine.faults c.args.engine.now c.end.new.engine h (after g c) (λ added. added ≡ end_of c.args.why (at c.args.stream h.state.streams))) c.self.view_is
+    (end_adds g.E.Engine.told g.E.Engine.SHARED g.E.Engine.meaning g.E.Engine.db g.E.Engine.live g.E.Engine.faults c.args.engine.now c.end.new.engine c.args.why c.args.stream c.in-Some.slot (the_view c.self.inside) (after g c) (did g c) c.ends_lead_on.ensures)
 
 pub returns-in-Some-clause-agrees : goal.returns-in-Some-clause-agrees
 returns-in-Some-clause-agrees g c = end_agrees g.E.Engine.told g.E.Engine.SHARED g.E.Engine.meaning g.E.Engine.db g.E.Engine.live g.E.Engine.faults c.args.engine.now c.end.new.engine c.args.why c.args.stream c.in-Some.slot (the_view c.self.inside) (after g c) (did g c) c.ends_keep_agreement.ensures

@@ -13,7 +13,7 @@ loop-stream-preserved g c =
     let numbers = c.args.streams.now in
     let rest : c.end_stream.new.self.state.streams ≡ without (get_or numbers i 0) c.loop-stream.self.state.streams = ap (λ (s : State). s.streams) c.end_stream.ensures.state in
     record {
-      adds = adds_on g.E.Engine.told _ _ _ c.args.self.now c.loop-stream.self c.end_stream.new.self _ _ (λ added. ends_of c.args.why numbers c.args.self.now.state.streams ≡ added ++ ends_of c.args.why (drop (i + 1) numbers) c.end_stream.new.self.state.streams)
+      adds = adds_on _ _ _ c.args.self.now c.loop-stream.self c.end_stream.new.self _ _ (λ added. ends_of c.args.why numbers c.args.self.now.state.streams ≡ added ++ ends_of c.args.why (drop (i + 1) numbers) c.end_stream.new.self.state.streams)
           c.loop-stream.invariant.later c.end_stream.ensures.later c.loop-stream.invariant.adds c.end_stream.ensures.adds
           (λ done one e f. ends_more c.args.why numbers i _ done one c.loop-stream.self.state.streams c.end_stream.new.self.state.streams c.loop-stream-test.true rest e f);
       left = gone_more numbers i _ c.loop-stream.self.state.streams c.end_stream.new.self.state.streams c.loop-stream-test.true rest c.loop-stream.invariant.left;
