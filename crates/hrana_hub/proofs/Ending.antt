@@ -1,6 +1,11 @@
 -- The end of a stream, and of many one after another.
-use Rattle.std.proofs.Common.{◌≡◌, ◌≢◌, ◌≤◌, ◌<◌, ◌+◌, ◌&&◌, ℕ, Bool, true, false, not, List, [], ◌∷◌, ◌++◌, length, take, drop, get_or, filter, Option, None, Some, option_to_list, refl, sym, ap, ◌∙◌, subst, arith, append-nil, append_assoc, drop_of_length-le, nat_cmp, IsTrue}
+use Rattle.std.proofs.Common.{◌≡◌, ◌≢◌, ◌≤◌, ◌<◌, ◌+◌, ◌&&◌, ℕ, Bool, true, false, not, List, [], ◌∷◌, ◌++◌, length, take, drop, get_or, filter, Option, None, Some, option_to_list, refl, sym, ap, ◌∙◌, subst, arith, append-nil, append_assoc, drop_of_length-le, nat_cmp, IsTrue, is_some, true≢false, inl, inr}
 use Rattle.std.specs.Option.{IsSome}
+use Rattle.std.specs.List.{All}
+use Rattle.std.specs.List.Sorted.{IsStrictlySortedBy}
+use Rattle.std.specs.Map.{keys_of}
+use Rattle.std.proofs.lemmas.Bool.{cases_Bool, cases_eq}
+use Rattle.std.proofs.lemmas.List.Elements.{All-cons}
 use Rattle.std.proofs.lemmas.List.{at_drop_more, drop-drop}
 use Rattle.serial_order.specs.Serial.{Meaning}
 use Rattle.hrana_value.specs.declared.StreamNo.{StreamNo}
@@ -23,12 +28,12 @@ use Rattle.hrana_hub.specs.Maps.{Numbered, at, without}
 use Rattle.hrana_hub.specs.State.{Conn, Stream, State, Seen, states_of, state_in}
 use Rattle.hrana_hub.specs.Adds.{Adds, LeadsOn}
 use Rattle.hrana_hub.specs.Agrees.{HubAgrees, IsCounted, open_units, HubStands}
-use Rattle.hrana_hub.specs.Ended.{end_of, ends_of, let_go, all_ends, HasLeft}
+use Rattle.hrana_hub.specs.Ended.{end_of, ends_of, let_go, all_ends, HasLeft, IsGone, Frees}
 use Rattle.hrana_hub.specs.Arrivals.{nothing}
 use Rattle.hrana_hub.specs.Polled.{with_streams}
 use Rattle.hrana_hub.specs.Step.{LostAt}
 use Rattle.hrana_hub.proofs.Adding.{adds_one, adds_on}
-use Rattle.hrana_hub.proofs.EntryLemmas.{at_first, without_first, without_unknown}
+use Rattle.hrana_hub.proofs.EntryLemmas.{at_first, without_first, without_unknown, at_without, at_without_other, rising_without}
 use Rattle.hrana_hub.proofs.Waiting.{has_gone, waiters_without}
 use Rattle.hrana_hub.proofs.Agreeing.{state_is, without_states, numbers_without, units_without}
 
@@ -185,3 +190,36 @@ lost_unknown s c conns out unknown is given =
     let same : conns ≡ s.conns = is ∙ without_unknown c s.conns unknown in
     subst (λ o. LostAt s c o [] out (record { conns = conns; streams = s.streams; opened = s.opened; next = s.next; version = s.version; events = s.events; stopped = s.stopped })) (sym unknown)
     (record { none = refl; given = given; left = ap (λ x. record { conns = x; streams = s.streams; opened = s.opened; next = s.next; version = s.version; events = s.events; stopped = s.stopped }) same })
+
+-- ---- what a loss frees
+
+still_gone : (numbers : List ℕ) (k : ℕ) (es : Numbered Stream) → IsStrictlySortedBy nat_cmp (keys_of es) → at k es ≡ None → at k (let_go numbers es) ≡ None
+still_gone [] k es r e = e
+still_gone (n ∷ numbers) k es r e = still_gone numbers k (without n es) (rising_without n es r) (elim (cases_eq k n) [
+  | inl i ↦ ap (λ j. at j (without n es)) i ∙ at_without n es r
+  | inr ne ↦ at_without_other n k es r ne ∙ e
+])
+
+none_left : (numbers : List ℕ) (es : Numbered Stream) → IsStrictlySortedBy nat_cmp (keys_of es) → All (λ (n : ℕ). at n (let_go numbers es) ≡ None) numbers
+none_left [] es r = λ k d lt. absurd (omega arith)
+none_left (n ∷ numbers) es r =
+    All-cons (λ (k : ℕ). at k (let_go numbers (without n es)) ≡ None) n numbers (still_gone numbers n (without n es) (rising_without n es r) (at_without n es r)) (none_left numbers (without n es) (rising_without n es r))
+
+pub gone : {D : Type 0} (told shared : Bool) (db : D) (live : Lives D) (h : Seen) (n : ℕ) → HubAgrees told shared db live h → at n h.state.streams ≡ None → IsGone h n
+gone told shared db live h n a none = record {
+  stream = none;
+  turn = subst (λ o. AgreesAt told db live h.turns n o) (ap state_in none) (a.together.agree n);
+  waits = elim (cases_Bool (has (numbered n) h.turns.waiters)) [
+    | inl e ↦ absurd (true≢false (sym (a.waiters n e) ∙ ap is_some none))
+    | inr e ↦ e
+  ];
+}
+
+-- the streams of the connection are gone, and so is the connection
+pub lost_frees : {D : Type 0} (told shared : Bool) (db : D) (live : Lives D) (c : ℕ) (o : Option Conn) (k : Conn) (es : Numbered Stream) (new : Seen) → o ≡ Some k → IsStrictlySortedBy nat_cmp (keys_of es)
+    → HubAgrees told shared db live new → new.state.streams ≡ let_go k.streams es → at c new.state.conns ≡ None → Frees c o new
+lost_frees told shared db live c o k es new known r a left none =
+    subst (λ o. Frees c o new) (sym known) (none, λ i d lt. gone told shared db live new _ a (ap (at _) left ∙ none_left k.streams es r i d lt))
+
+pub frees_unknown : (c : ℕ) (o : Option Conn) (new : Seen) → o ≡ None → Frees c o new
+frees_unknown c o new e = subst (λ o. Frees c o new) (sym e) tt

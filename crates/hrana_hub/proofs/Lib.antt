@@ -9,4 +9,5 @@ pub mod Polling
 pub mod Stepping
 pub mod ArrivalLemmas
 pub mod ArrivalAgreeing
+pub mod ArrivalAdding
 pub mod CallLemmas

@@ -3,7 +3,7 @@ ghost use Rattle.std.specs.Prelude.{◌≡◌, ◌≤◌, IsSome, [], take, drop
 ghost use Rattle.stream_task.specs.Together.{numbered};
 ghost use Rattle.hrana_hub.specs.Adds.{Adds};
 ghost use Rattle.hrana_hub.specs.Agrees.{HubAgrees};
-ghost use Rattle.hrana_hub.specs.Ended.{end_of, ends_of, let_go, all_ends, at_its_end, HasLeft};
+ghost use Rattle.hrana_hub.specs.Ended.{end_of, ends_of, let_go, all_ends, at_its_end, HasLeft, Frees};
 ghost use Rattle.hrana_hub.specs.Maps.{at, without};
 ghost use Rattle.hrana_hub.specs.Arrivals.{nothing};
 ghost use Rattle.hrana_hub.specs.Polled.{with_streams};
@@ -84,6 +84,7 @@ impl Hub {
         requires { HubAgrees E.told E.SHARED (E.db engine.old) (E.live engine.old) self.old }
         ensures adds { Adds E.told E.SHARED E.meaning E.db E.live E.faults engine.old engine.new self.old self.new (λ added. LostAt self.old.state conn (at conn self.old.state.conns) added result self.new.state) }
         ensures agrees { HubAgrees E.told E.SHARED (E.db engine.new) (E.live engine.new) self.new }
+        ensures freed { Frees conn (at conn self.old.state.conns) self.new }
         ensures token { self.new.token ≡ self.old.token }
         ensures later { E.faults engine.old ≤ E.faults engine.new }
     {

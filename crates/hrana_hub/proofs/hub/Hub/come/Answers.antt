@@ -1,5 +1,8 @@
 use Rattle.std.proofs.Common.{false}
+use Rattle.hrana_hub.proofs.Adding.{adds_as}
 use Rattle.hrana_hub.proofs.ArrivalAgreeing.{text_agrees, binary_agrees, opened_agrees}
+use Rattle.hrana_hub.proofs.ArrivalAdding.{text_adds, binary_adds, opened_adds}
+use Rattle.hrana_hub.proofs.Stepping.{opened_comes, binary_comes, lost_comes, stop_comes}
 use Rattle.hrana_hub.proofs.hub.Hub.come.Goals as goal
 
 pub returns-in-Opened-clause-agrees : goal.returns-in-Opened-clause-agrees

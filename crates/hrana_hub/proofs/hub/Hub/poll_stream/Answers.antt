@@ -36,9 +36,9 @@ did g c = record {
 
 pub returns-in-Some-clause-adds : goal.returns-in-Some-clause-adds
 returns-in-Some-clause-adds g c =
-    subst (λ h. Adds g.E.Engine.told (g.E.Engine.faults c.args.engine.now) (g.E.Engine.faults c.poll.new.engine) h (after g c) (λ added. (x : Stream) → at c.args.stream h.state.streams ≡ Some x → PollsStream g.E.Engine.SHARED h.state c.args.stream x added c.poll.result (after g c).state)) c.self.view_is
+    subst (λ h. Adds g.E.Engine.told g.E.Engine.SHARED g.E.Engine.meaning g.E.Engine.db g.E.Engine.live g.E.Engine.faults c.args.engine.now c.poll.new.engine h (after g c) (λ added. (x : Stream) → at c.args.stream h.state.streams ≡ Some x → PollsStream g.E.Engine.SHARED h.state c.args.stream x added c.poll.result (after g c).state)) c.self.view_is
     (poll_adds g.E.Engine.told g.E.Engine.SHARED g.E.Engine.meaning g.E.Engine.db g.E.Engine.live g.E.Engine.faults c.args.engine.now c.poll.new.engine c.args.stream c.in-Some.slot.now c.poll.new.self.task c.poll.result (the_view c.self.inside) (after g c) (did g c)
-    (c.streams_agree.ensures.turn _ _ _ _ _ (did g c).agrees.together))
+    (c.streams_agree.ensures.turn _ _ _ _ _ (did g c).agrees.together) c.polls_lead_on.ensures)
 
 pub returns-in-Some-clause-agrees : goal.returns-in-Some-clause-agrees
 returns-in-Some-clause-agrees g c = poll_agrees g.E.Engine.told g.E.Engine.SHARED g.E.Engine.meaning g.E.Engine.db g.E.Engine.live g.E.Engine.faults c.args.engine.now c.poll.new.engine c.args.stream c.in-Some.slot.now c.poll.new.self.task c.poll.result (the_view c.self.inside) (after g c) (did g c) c.polls_keep_agreement.ensures
