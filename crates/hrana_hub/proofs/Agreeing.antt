@@ -157,6 +157,19 @@ pub record Stays (old new : Seen) (streams : Numbered Stream) : Type 0 where
 counts_stay : (old new : Seen) (streams : Numbered Stream) → Stays old new streams → IsCounted old.state → IsCounted new.state
 counts_stay old new streams s h = record { streams = omega (arith, s.opened, s.events, h.streams); units = omega (arith, s.next, s.events, h.units); commits = omega (arith, s.version, s.events, h.commits) }
 
+-- nothing changed but the list of entries, and the places for more
+pub stays_same : (old new : Seen) → new.state ≡ old.state → new.turns ≡ old.turns → new.noted.next ≡ old.noted.next → old.noted.spare ≤ new.noted.spare → Stays old new old.state.streams
+stays_same old new state turns next places = record {
+  streams_are = ap (λ (s : State). s.streams) state;
+  opened = ap (λ (s : State). s.opened) state;
+  next = ap (λ (s : State). s.next) state;
+  version = ap (λ (s : State). s.version) state;
+  events = (let e = ap (λ (s : State). s.events) state in omega (arith, e));
+  turns = turns;
+  noted = next;
+  places = places;
+}
+
 module _ {D : Type 0} (told shared : Bool) (db : D) (live : Lives D) (old new : Seen) where
   agrees_still : (streams : Numbered Stream) → HubAgrees told shared db live old → Stays old new streams → ((k : ℕ) → states_of streams k ≡ states_of old.state.streams k) → ((k : ℕ) → IsSome (at k old.state.streams) → IsSome (at k streams))
       → IsNumbered new.state → open_units streams ≤ old.noted.spare → HubAgrees told shared db live new
@@ -184,13 +197,4 @@ module _ {D : Type 0} (told shared : Bool) (db : D) (live : Lives D) (old new : 
       agrees_still (put n y old.state.streams) h s (same_states n x y old.state.streams e state) (λ k some. known_put n k x y old.state.streams e some) (numbers_put old.state new.state n x y e stream s.streams_are s.opened h.numbers) (omega (arith, units, opens, h.places))
 
   pub places_agrees : HubAgrees told shared db live old → OnlyPlaces old new → HubAgrees told shared db live new
-  places_agrees h o = same_agrees h (record {
-    streams_are = ap (λ (s : State). s.streams) o.state;
-    opened = ap (λ (s : State). s.opened) o.state;
-    next = ap (λ (s : State). s.next) o.state;
-    version = ap (λ (s : State). s.version) o.state;
-    events = (let e = ap (λ (s : State). s.events) o.state in omega (arith, e));
-    turns = o.turns;
-    noted = o.next;
-    places = o.places;
-  })
+  places_agrees h o = same_agrees h (stays_same old new o.state o.turns o.next o.places)

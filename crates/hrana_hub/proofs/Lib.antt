@@ -4,6 +4,7 @@ pub mod EntryLemmas
 pub mod Waiting
 pub mod Agreeing
 pub mod Adding
+pub mod Beginning
 pub mod Ending
 pub mod Polling
 pub mod Stepping
