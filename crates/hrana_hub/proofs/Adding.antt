@@ -140,6 +140,18 @@ module _ {X D : Type 0} {told shared : Bool} {m : Meaning D BoundStmt Answer} {d
     holds = more a.added a.holds;
   }
 
+  -- before what adds nothing
+  pub adds_until : (engine engine' : X) (old mid new : Seen) (P Q : List Entry → Type 0) → new.noted.list ≡ mid.noted.list → Alike mid new → ((a : List Entry) → P a → Q a)
+      → Adds told shared m db live faults engine engine' old mid P → Adds told shared m db live faults engine engine' old new Q
+  adds_until engine engine' old mid new P Q list same more a = record {
+    added = a.added;
+    grew = list ∙ a.grew;
+    cause = a.cause;
+    refused = a.refused;
+    leads = λ sure first journal h. hub_stands shared m (db engine') (live engine') mid new same first (journal ++ a.added) (a.leads sure first journal h);
+    holds = more a.added a.holds;
+  }
+
   -- the entry of a stream
   pub adds_one : (stream : StreamNo) (engine engine' : X) (t t' : Turns) (old new : Seen) (waits : Bool) (P : Option Entry → Type 0) (Q : List Entry → Type 0) → (a : AddsOne told m db live faults stream engine engine' t t' old.noted new.noted waits P)
       → (IsTrue told → LeadsOn shared m (db engine) (live engine) (db engine') (live engine') old new (option_to_list a.added)) → Q (option_to_list a.added) → Adds told shared m db live faults engine engine' old new Q

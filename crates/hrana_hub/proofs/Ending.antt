@@ -17,6 +17,7 @@ use Rattle.engine_core.specs.declared.statement.BoundStmt.{BoundStmt}
 use Rattle.engine_core.specs.declared.entries.Answer.{Answer}
 use Rattle.engine_core.specs.declared.entries.Entry.{Entry}
 use Rattle.engine_core.specs.declared.entries.Undo.{Undo}
+use Rattle.engine_core.specs.declared.entries.Undo.TheVariants as undo
 use Rattle.stream_task.specs.Adds.{undone_of, next_by}
 use Rattle.stream_task.specs.Leads.{EndsLead}
 use Rattle.stream_task.specs.Moved.{version_by, Rests}
@@ -28,7 +29,7 @@ use Rattle.hrana_hub.specs.Maps.{Numbered, at, without}
 use Rattle.hrana_hub.specs.State.{Conn, Stream, State, Seen, states_of, state_in}
 use Rattle.hrana_hub.specs.Adds.{Adds, LeadsOn}
 use Rattle.hrana_hub.specs.Agrees.{HubAgrees, IsCounted, open_units, HubStands}
-use Rattle.hrana_hub.specs.Ended.{end_of, ends_of, let_go, all_ends, HasLeft, IsGone, Frees}
+use Rattle.hrana_hub.specs.Ended.{end_of, ends_of, let_go, without_conn, all_ends, HasLeft, IsGone, Frees}
 use Rattle.hrana_hub.specs.Arrivals.{nothing}
 use Rattle.hrana_hub.specs.Polled.{with_streams}
 use Rattle.hrana_hub.specs.Step.{LostAt}
@@ -191,6 +192,19 @@ lost_unknown s c conns out unknown is given =
     subst (λ o. LostAt s c o [] out (record { conns = conns; streams = s.streams; opened = s.opened; next = s.next; version = s.version; events = s.events; stopped = s.stopped })) (sym unknown)
     (record { none = refl; given = given; left = ap (λ x. record { conns = x; streams = s.streams; opened = s.opened; next = s.next; version = s.version; events = s.events; stopped = s.stopped }) same })
 
+-- ---- a connection that is lost
+
+abbrev pub with_conns : Numbered Conn → State → State
+with_conns conns s = record { conns = conns; streams = s.streams; opened = s.opened; next = s.next; version = s.version; events = s.events; stopped = s.stopped }
+
+pub lost_leaves : (c : ℕ) (k : Conn) (numbers : List ℕ) (conns : Numbered Conn) (h old : Seen) (new : State) → h ≡ old → numbers ≡ k.streams → conns ≡ without c h.state.conns
+    → new ≡ with_streams (let_go numbers h.state.streams) (with_conns conns h.state) → new ≡ without_conn c k old.state
+lost_leaves c k numbers conns h old new is streams rest left =
+    left ∙ ap (λ ns. with_streams (let_go ns h.state.streams) (with_conns conns h.state)) streams ∙ ap (λ cs. with_streams (let_go k.streams h.state.streams) (with_conns cs h.state)) rest ∙ ap (λ (x : Seen). without_conn c k x.state) is
+
+pub lost_known : (s : State) (c : ℕ) (k : Conn) (added : List Entry) (out : Outs) (new : State) → at c s.conns ≡ Some k → added ≡ ends_of undo.Lost k.streams s.streams → out ≡ nothing → new ≡ without_conn c k s → LostAt s c (at c s.conns) added out new
+lost_known s c k added out new known ends given left = subst (λ o. LostAt s c o added out new) (sym known) (ends, given, left)
+
 -- ---- what a loss frees
 
 still_gone : (numbers : List ℕ) (k : ℕ) (es : Numbered Stream) → IsStrictlySortedBy nat_cmp (keys_of es) → at k es ≡ None → at k (let_go numbers es) ≡ None
@@ -220,6 +234,3 @@ pub lost_frees : {D : Type 0} (told shared : Bool) (db : D) (live : Lives D) (c 
     → HubAgrees told shared db live new → new.state.streams ≡ let_go k.streams es → at c new.state.conns ≡ None → Frees c o new
 lost_frees told shared db live c o k es new known r a left none =
     subst (λ o. Frees c o new) (sym known) (none, λ i d lt. gone told shared db live new _ a (ap (at _) left ∙ none_left k.streams es r i d lt))
-
-pub frees_unknown : (c : ℕ) (o : Option Conn) (new : Seen) → o ≡ None → Frees c o new
-frees_unknown c o new e = subst (λ o. Frees c o new) (sym e) tt

@@ -1,5 +1,5 @@
 -- A poll of a stream is a step of the hub.
-use Rattle.std.proofs.Common.{◌≡◌, ◌≢◌, ◌≤◌, ◌<◌, ◌+◌, ◌-◌, ℕ, Bool, true, false, cond, List, [], ◌∷◌, ◌++◌, length, Option, None, Some, option_to_list, MatchBool, refl, sym, ap, ap₂, ◌∙◌, subst, arith, inl, inr, append-nil, is_some, true≢false, ℤ, IsTrue}
+use Rattle.std.proofs.Common.{◌≡◌, ◌≢◌, ◌≤◌, ◌<◌, ◌+◌, ◌-◌, ℕ, Bool, true, false, not, cond, List, [], ◌∷◌, ◌++◌, length, Option, None, Some, option_to_list, MatchBool, refl, sym, ap, ap₂, ◌∙◌, subst, arith, inl, inr, append-nil, is_some, true≢false, ℤ, IsTrue}
 use Rattle.std.specs.Option.{IsSome}
 use Rattle.serial_order.specs.Serial.{Meaning}
 use Rattle.hrana_value.specs.declared.StreamNo.{StreamNo}
@@ -36,10 +36,11 @@ use Rattle.hrana_hub.specs.State.{Conn, Stream, State, Seen, OnlyPlaces, states_
 use Rattle.hrana_hub.specs.Adds.{Adds, LeadsOn}
 use Rattle.hrana_hub.specs.Agrees.{HubAgrees, IsAhead, open_units}
 use Rattle.hrana_hub.specs.Ended.{end_of}
-use Rattle.hrana_hub.specs.Arrivals.{nothing, tells, with_conn, shut}
+use Rattle.hrana_hub.specs.Arrivals.{nothing, quiet, tells, with_conn, shut}
 use Rattle.hrana_hub.specs.Polled.{Polled, PollFell, IsWriter, with_entry, with_streams, seen_of, reply_in, is_over, polled, streams_left, replied, dropped, is_closed, later_ids, first_id, answer, FellShort}
 use Rattle.hrana_hub.specs.Settled.{PollsStream, Settles, PollEnds, Tells, Drops, with_task, after_told, after_fall, after_passed, passed}
-use Rattle.hrana_hub.specs.Step.{is_short, closes_short}
+use Rattle.hrana_hub.specs.Calls.{is_heard}
+use Rattle.hrana_hub.specs.Step.{is_short, closes_short, Goes, Heard, PolledAt, PollSteps}
 use Rattle.hrana_hub.proofs.Adding.{Alike, adds_none, adds_from, adds_one}
 use Rattle.hrana_hub.proofs.EntryLemmas.{at_put, put_same, put_put, without_put, length_put}
 use Rattle.hrana_hub.proofs.Waiting.{waiters_put}
@@ -408,3 +409,25 @@ early_fall shared h n c x k out new turn waits given left = short out _ _ (ap is
   given = given;
   left = left;
 })
+
+-- ---- a stream that isn't polled
+
+unheard : (s : State) (o : Option Conn) (Does : Conn → Type 0) (out : Outs) → is_heard o ≡ false → out ≡ nothing → Heard s o Does [] out s
+unheard s None Does out e given = record { none = refl; given = given; left = refl }
+unheard s (Some k) Does out e given = by k.closing e
+  where
+    by : (b : Bool) → not b ≡ false → MatchBool b (Goes (quiet s) [] out s) (Does k)
+    by true f = record { none = refl; given = given; left = refl }
+    by false f = absurd (true≢false f)
+
+pub polls_unknown : (shared : Bool) (s : State) (n : ℕ) (out : Outs) → out ≡ nothing → at n s.streams ≡ None → PollSteps shared s n [] out s
+polls_unknown shared s n out given none = found out _ _ (ap is_short given) (subst (λ o. PolledAt shared s n o [] out s) (sym none) (record { none = refl; given = given; left = refl }))
+
+pub polls_idle : (shared : Bool) (s : State) (n : ℕ) (x : Stream) (out : Outs) → out ≡ nothing → at n s.streams ≡ Some x → is_waiting x.task.asks ≡ false → PollSteps shared s n [] out s
+polls_idle shared s n x out given known idle = found out _ _ (ap is_short given) (subst (λ o. PolledAt shared s n o [] out s) (sym known)
+    (subst (λ b. MatchBool b (Heard s (at x.conn s.conns) (λ k. Polled shared s n x.conn x k [] out s) [] out s) (Goes (quiet s) [] out s)) (sym idle) (record { none = refl; given = given; left = refl })))
+
+pub polls_unheard : (shared : Bool) (s : State) (n : ℕ) (x : Stream) (out : Outs) → out ≡ nothing → at n s.streams ≡ Some x → is_waiting x.task.asks ≡ true → is_heard (at x.conn s.conns) ≡ false → PollSteps shared s n [] out s
+polls_unheard shared s n x out given known waits deaf = found out _ _ (ap is_short given) (subst (λ o. PolledAt shared s n o [] out s) (sym known)
+    (subst (λ b. MatchBool b (Heard s (at x.conn s.conns) (λ k. Polled shared s n x.conn x k [] out s) [] out s) (Goes (quiet s) [] out s)) (sym waits)
+    (unheard s (at x.conn s.conns) (λ k. Polled shared s n x.conn x k [] out s) out deaf given)))

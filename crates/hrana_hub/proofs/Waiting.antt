@@ -35,7 +35,7 @@ has_left k s (x ∷ xs) h = by (has_left k s xs) (same_stream x s) h
 has_pushed : (k s : StreamNo) (xs : List StreamNo) → has k (xs ++ s ∷ []) ≡ true → (has k xs ≡ true) ⊎ (s ≡ k)
 has_pushed k s [] h = elim (or_cases (same_stream s k) false h) [
   | inl e ↦ inr (one_of_same s k e)
-  | inr no ↦ absurd (true≢false (sym no))
+  | inr never ↦ absurd (true≢false (sym never))
 ]
 has_pushed k s (x ∷ xs) h = elim (or_cases (same_stream x k) (has k (xs ++ s ∷ [])) h) [
   | inl e ↦ inl (rw e refl)

@@ -33,3 +33,6 @@ pub returns-in-Ok-clause-gone : goal.returns-in-Ok-clause-gone
 returns-in-Ok-clause-gone c =
     let left = c.remove.ensures.items ∙ (ap (λ (es : Numbered Conn). remove es c.in-Ok.place) c.self.view_is ∙ remove_place c.args.conn c.args.self.now c.in-Ok.place c.in-Ok.ensures) in
     ap (at c.args.conn) left ∙ at_without c.args.conn c.args.self.now (subst Rises c.self.view_is c.self.invariant.rising)
+
+pub returns-in-Err-clause-gone : goal.returns-in-Err-clause-gone
+returns-in-Err-clause-gone c = at_gap c.args.conn c.args.self.now c.in-Err.field-0 c.in-Err.ensures

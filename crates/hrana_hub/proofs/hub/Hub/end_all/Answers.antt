@@ -1,9 +1,9 @@
-use Rattle.std.proofs.Common.{◌≡◌, ◌≤◌, ◌++◌, ◌+◌, ◌∙◌, sym, ap, arith, drop}
-use Rattle.std.proofs.lemmas.List.{drop-drop}
+use Rattle.std.proofs.Common.{◌≡◌, ◌≤◌, ◌<◌, ◌++◌, ◌+◌, ◌∙◌, refl, sym, ap, subst, arith, drop, length, append-nil}
+use Rattle.std.proofs.lemmas.List.{drop-drop, at_drop_all}
 use Rattle.hrana_hub.specs.Ended.{all_ends}
-use Rattle.hrana_hub.specs.State.{State}
+use Rattle.hrana_hub.specs.State.{State, Seen}
 use Rattle.hrana_hub.specs.Polled.{with_streams}
-use Rattle.hrana_hub.proofs.Adding.{adds_on}
+use Rattle.hrana_hub.proofs.Adding.{alike, adds_none, adds_on, adds_as}
 use Rattle.hrana_hub.proofs.Ending.{ends_on}
 use Rattle.hrana_hub.proofs.hub.Hub.end_all.Goals as goal
 
@@ -23,3 +23,21 @@ loop-preserved g c =
       token = c.end_first.ensures.token ∙ c.loop.invariant.token;
       later = omega (arith, c.loop.invariant.later, c.end_first.ensures.later);
     }
+
+pub loop-init : goal.loop-init
+loop-init g c = record {
+  adds = adds_none _ c.args.self.now c.args.self.now _ refl (alike c.args.self.now c.args.self.now refl refl refl) refl;
+  left = refl;
+  last = c.len-end.ensures.len ∙ ap (λ (h : Seen). length h.state.streams) c.self.view_is;
+  state = refl;
+  agrees = c.requires;
+  token = refl;
+  later = omega arith;
+}
+
+pub returns-clause-adds : goal.returns-clause-adds
+returns-clause-adds g c =
+    let why = c.args.why in
+    let all = c.args.self.now.state.streams in
+    let none = ap (all_ends why) c.loop.invariant.left ∙ at_drop_all (all_ends why) all c.loop.counter (λ l. c.loop-test.false (subst (λ n. c.loop.counter < n) (sym c.loop.invariant.last) l)) in
+    adds_as _ _ c.args.self.now c.loop.self _ (λ added. added ≡ all_ends why all) (λ added e. sym (e ∙ ap (λ l. added ++ l) none ∙ append-nil added)) c.loop.invariant.adds

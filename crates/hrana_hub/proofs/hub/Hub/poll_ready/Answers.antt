@@ -1,4 +1,5 @@
-use Rattle.std.proofs.Common.{◌≤◌, ◌∙◌, sym, ap, arith}
+use Rattle.std.proofs.Common.{◌≡◌, ◌≤◌, ◌∙◌, List, Some, sym, ap, subst, arith}
+use Rattle.engine_core.specs.declared.entries.Entry.{Entry}
 use Rattle.hrana_hub.specs.Maps.{at}
 use Rattle.hrana_hub.specs.State.{Conn, Stream, State, Seen}
 use Rattle.hrana_hub.specs.Settled.{PollEnds, after_fall}
@@ -32,3 +33,10 @@ returns-then-is_err-clause-agrees g c = put_agrees _ _ _ _ _ _ c.args.stream c.a
 
 pub returns-then-is_err-clause-token : goal.returns-then-is_err-clause-token
 returns-then-is_err-clause-token g c = put_token _ _ c.args.stream c.args.conn (falls_put _ _ _ _ (known g c) c.fall.ensures.hub) ∙ c.make_places.ensures.rest.token
+
+pub returns-clause-adds : goal.returns-clause-adds
+returns-clause-adds g c =
+    let rest = c.make_places.ensures.rest in
+    let told : State → List Entry → Type 0 = λ s added. (k : Conn) (x : Stream) → at c.args.conn s.conns ≡ Some k → at c.args.stream s.streams ≡ Some x → PollEnds g.E.Engine.SHARED s c.args.stream c.args.conn x k added c.poll_placed.result c.poll_placed.new.self.state in
+    adds_from _ _ c.args.self.now c.make_places.new.self c.poll_placed.new.self (told c.make_places.new.self.state) (told c.args.self.now.state) rest.list (alike c.args.self.now c.make_places.new.self (ap (λ (s : State). s.streams) rest.state) rest.turns rest.next)
+    (λ added h. subst (λ s. told s added) rest.state h) c.poll_placed.ensures.adds
