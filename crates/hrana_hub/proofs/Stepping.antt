@@ -17,7 +17,7 @@ use Rattle.hrana_hub.specs.Adds.{Adds}
 use Rattle.hrana_hub.specs.Agrees.{HubAgrees, IsCounted, IsAhead}
 use Rattle.hrana_hub.specs.Arrivals.{nothing, closing, quiet}
 use Rattle.hrana_hub.specs.Ended.{all_ends, at_its_end, LossFrees}
-use Rattle.hrana_hub.specs.Step.{Step, Comes, Goes, Heard, LostAt, BinarySteps, is_short, fits, may_come, may_send, is_unknown, counted, has_room, with_new_conn}
+use Rattle.hrana_hub.specs.Step.{Step, Comes, Goes, Heard, LostAt, TextSteps, BinarySteps, is_short, fits, may_come, may_send, is_unknown, counted, has_room, with_new_conn}
 use Rattle.hrana_hub.proofs.Adding.{alike, adds_from}
 use Rattle.hrana_hub.proofs.Agreeing.{same_agrees}
 
@@ -94,6 +94,9 @@ long out A B e b = subst (λ c. MatchBool c A B) (sym e) b
 
 pub opened_comes : (token : Option (List ℕ)) (shared : Bool) (s new : State) (c : ℕ) (out : Outs) → out ≡ nothing → new ≡ with_new_conn c false s → Comes token shared s (Opened c) [] out new
 opened_comes token shared s new c out given left = long out _ _ (ap is_short given) (record { none = refl; given = given; left = left })
+
+pub text_comes : (token : Option (List ℕ)) (shared : Bool) (s new : State) (c : ℕ) (text : List ℕ) (out : Outs) → TextSteps token s c text out new → Comes token shared s (Text c text) [] out new
+text_comes token shared s new c text out h = h
 
 binary_gives : (s new : State) (c : ℕ) (o : Option Conn) (out : Outs) → Heard s o (λ k. Goes (closing c k None 1003 s) [] out new) [] out new → is_short out ≡ false
 binary_gives s new c None out h = ap is_short h.given

@@ -1,4 +1,4 @@
-use Rattle.std.proofs.Common.{◌≡◌, ◌≤◌, ◌<◌, ◌++◌, ◌+◌, ◌∙◌, refl, sym, ap, subst, arith, drop, length, append-nil}
+use Rattle.std.proofs.Common.{◌≡◌, ◌≤◌, ◌++◌, ◌+◌, ◌∙◌, refl, sym, ap, arith, drop, length, append-nil}
 use Rattle.std.proofs.lemmas.List.{drop-drop, at_drop_all}
 use Rattle.hrana_hub.specs.Ended.{all_ends}
 use Rattle.hrana_hub.specs.State.{State, Seen}
@@ -39,5 +39,6 @@ pub returns-clause-adds : goal.returns-clause-adds
 returns-clause-adds g c =
     let why = c.args.why in
     let all = c.args.self.now.state.streams in
-    let none = ap (all_ends why) c.loop.invariant.left ∙ at_drop_all (all_ends why) all c.loop.counter (λ l. c.loop-test.false (subst (λ n. c.loop.counter < n) (sym c.loop.invariant.last) l)) in
+    let past : length all ≤ c.loop.counter = omega (arith, c.loop-test.false, c.loop.invariant.last) in
+    let none = ap (all_ends why) c.loop.invariant.left ∙ at_drop_all (all_ends why) all c.loop.counter past in
     adds_as _ _ c.args.self.now c.loop.self _ (λ added. added ≡ all_ends why all) (λ added e. sym (e ∙ ap (λ l. added ++ l) none ∙ append-nil added)) c.loop.invariant.adds
