@@ -29,7 +29,7 @@ use Rattle.hrana_hub.specs.Maps.{Numbered, at, without}
 use Rattle.hrana_hub.specs.State.{Conn, Stream, State, Seen, states_of, state_in}
 use Rattle.hrana_hub.specs.Adds.{Adds, LeadsOn}
 use Rattle.hrana_hub.specs.Agrees.{HubAgrees, IsCounted, open_units, HubStands}
-use Rattle.hrana_hub.specs.Ended.{end_of, ends_of, let_go, without_conn, all_ends, HasLeft, IsGone, Frees}
+use Rattle.hrana_hub.specs.Ended.{end_of, ends_of, let_go, without_conn, all_ends, at_its_end, HasLeft, IsGone, Frees}
 use Rattle.hrana_hub.specs.Arrivals.{nothing}
 use Rattle.hrana_hub.specs.Polled.{with_streams}
 use Rattle.hrana_hub.specs.Step.{LostAt}
@@ -204,6 +204,14 @@ lost_leaves c k numbers conns h old new is streams rest left =
 
 pub lost_known : (s : State) (c : ℕ) (k : Conn) (added : List Entry) (out : Outs) (new : State) → at c s.conns ≡ Some k → added ≡ ends_of undo.Lost k.streams s.streams → out ≡ nothing → new ≡ without_conn c k s → LostAt s c (at c s.conns) added out new
 lost_known s c k added out new known ends given left = subst (λ o. LostAt s c o added out new) (sym known) (ends, given, left)
+
+-- ---- the end of all
+
+abbrev pub stopped_with : Numbered Conn → State → State
+stopped_with conns s = record { conns = conns; streams = s.streams; opened = s.opened; next = s.next; version = s.version; events = s.events; stopped = true }
+
+pub stop_leaves : (conns : Numbered Conn) (s old : State) → conns ≡ [] → s ≡ with_streams [] old → stopped_with conns s ≡ at_its_end old
+stop_leaves conns s old none left = ap (λ cs. stopped_with cs s) none ∙ ap (stopped_with []) left
 
 -- ---- what a loss frees
 

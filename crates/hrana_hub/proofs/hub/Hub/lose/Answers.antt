@@ -18,10 +18,10 @@ returns-in_default-clause-adds g c =
     (adds_none c.args.engine.now (the_view c.self.inside) after _ refl (alike (the_view c.self.inside) after refl refl refl)
     (lost_unknown (the_view c.self.inside).state c.args.conn c.remove.new.self c.nothing.result (sym c.in_default.ensures.connection) c.remove.ensures.rest c.nothing.ensures))
 
-known : (g : given.Over) (c : goal.After-end_streams g) → at c.args.conn c.args.self.now.state.conns ≡ Some c.in-Some.known
+known : (g : given.Over) (c : goal.After-drop-streams g) → at c.args.conn c.args.self.now.state.conns ≡ Some c.in-Some.known
 known g c = ap (λ (h : Seen). at c.args.conn h.state.conns) (sym c.self.view_is) ∙ sym c.in-Some.ensures.connection
 
-leaves : (g : given.Over) (c : goal.After-end_streams g) → c.end_streams.new.self.state ≡ without_conn c.args.conn c.in-Some.known c.args.self.now.state
+leaves : (g : given.Over) (c : goal.After-drop-streams g) → c.end_streams.new.self.state ≡ without_conn c.args.conn c.in-Some.known c.args.self.now.state
 leaves g c =
     lost_leaves c.args.conn c.in-Some.known c.deref.result.now c.remove.new.self (the_view c.self.inside) c.args.self.now c.end_streams.new.self.state c.self.view_is (c.deref.ensures.value ∙ c.into_streams-streams.ensures) c.remove.ensures.rest c.end_streams.ensures.state
 

@@ -1,4 +1,6 @@
 use Rattle.std.proofs.Common.{◌≡◌, ◌≤◌, ◌+◌, ◌∙◌, Some, refl, sym, ap, subst, length, rules}
+use Rattle.stream_task.specs.declared.task.Poll.TheVariants.{Ready}
+use Rattle.stream_task.specs.declared.task.Stepped.TheVariants.{Idle}
 use Rattle.hrana_hub.specs.Maps.{at, put}
 use Rattle.hrana_hub.specs.State.{Stream, State, Seen}
 use Rattle.hrana_hub.specs.Adds.{Adds}
@@ -50,5 +52,5 @@ returns-in-None-clause-adds g c =
     let old = the_view c.self.inside in
     let left : Seen = the_view (record { alloc = c.self.inside.alloc; token = c.self.inside.token; conns = c.self.inside.conns; slots = c.get_mut.follows.lender-at-none; opened = c.self.inside.opened; events = c.self.inside.events; stopped = c.self.inside.stopped; turns = c.self.inside.turns; entries = c.self.inside.entries }) in
     let same : left.state.streams ≡ old.state.streams = search rules in
-    subst (λ h. Adds g.E.Engine.told g.E.Engine.SHARED g.E.Engine.meaning g.E.Engine.db g.E.Engine.live g.E.Engine.faults c.args.engine.now c.args.engine.now h left (λ added. (x : Stream) → at c.args.stream h.state.streams ≡ Some x → PollsStream g.E.Engine.SHARED h.state c.args.stream x added _ left.state)) c.self.view_is
+    subst (λ h. Adds g.E.Engine.told g.E.Engine.SHARED g.E.Engine.meaning g.E.Engine.db g.E.Engine.live g.E.Engine.faults c.args.engine.now c.args.engine.now h left (λ added. (x : Stream) → at c.args.stream h.state.streams ≡ Some x → PollsStream g.E.Engine.SHARED h.state c.args.stream x added (Ready Idle) left.state)) c.self.view_is
     (adds_none c.args.engine.now old left _ refl (alike old left same refl refl) (λ x e. absurd (none_some (c.in-None.ensures.value ∙ e))))
