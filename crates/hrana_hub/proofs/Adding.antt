@@ -120,7 +120,7 @@ module _ {X D : Type 0} {told shared : Bool} {m : Meaning D BoundStmt Answer} {d
     refused = refuse_both told (faults engine) (faults engine') a.added b.added (refuse_by told (faults engine) (faults between) (faults engine') (faults engine) a.added (omega arith) n a.refused)
         (refuse_by told (faults between) (faults engine') (faults engine') (faults engine) b.added l (omega arith) b.refused);
     leads = λ sure first journal h.
-      subst (λ j. HubStands shared m first j (db engine') (live engine') new) (append_assoc journal a.added b.added) (b.leads sure first (journal ++ a.added) (a.leads sure first journal h));
+        subst (λ j. HubStands shared m first j (db engine') (live engine') new) (append_assoc journal a.added b.added) (b.leads sure first (journal ++ a.added) (a.leads sure first journal h));
     holds = both a.added b.added a.holds b.holds;
   }
 

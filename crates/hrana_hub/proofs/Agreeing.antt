@@ -65,31 +65,31 @@ numbers_put s s' n x y e same streams opened h = record {
   rising = subst (IsStrictlySortedBy nat_cmp) (sym (ap keys_of streams ∙ keys_put n y s.streams)) h.rising;
   own = λ k z f. elim (cases_eq k n) [
     | inl i ↦ (let two : Some y ≡ Some z = sym (at_put n x y s.streams e) ∙ ap (λ j. at j (put n y s.streams)) (sym i) ∙ ap (at k) (sym streams) ∙ f in
-      let is : y ≡ z = cc in
-      ap (λ (v : Stream). v.task.stream) (sym is) ∙ same ∙ h.own n x e ∙ ap numbered (sym i))
+        let is : y ≡ z = cc in
+        ap (λ (v : Stream). v.task.stream) (sym is) ∙ same ∙ h.own n x e ∙ ap numbered (sym i))
     | inr ne ↦ h.own k z (sym (at_put_other n k x y s.streams e ne) ∙ ap (at k) (sym streams) ∙ f)
   ];
   opened = λ k l.
-    let before : at k s.streams ≡ None = h.opened k (subst (λ o. o < k) opened l) in
-    let ne : k ≢ n = λ i. (let no : None ≡ Some x = sym before ∙ ap (λ j. at j s.streams) i ∙ e in cc) in
-    ap (at k) streams ∙ at_put_other n k x y s.streams e ne ∙ before;
+      let before : at k s.streams ≡ None = h.opened k (subst (λ o. o < k) opened l) in
+      let ne : k ≢ n = λ i. (let no : None ≡ Some x = sym before ∙ ap (λ j. at j s.streams) i ∙ e in cc) in
+      ap (at k) streams ∙ at_put_other n k x y s.streams e ne ∙ before;
 }
 
 pub numbers_without : (s s' : State) (n : ℕ) → s'.streams ≡ without n s.streams → s'.opened ≡ s.opened → IsNumbered s → IsNumbered s'
 numbers_without s s' n streams opened h = record {
   rising = subst (λ es. IsStrictlySortedBy nat_cmp (keys_of es)) (sym streams) (rising_without n s.streams h.rising);
   own = λ k z f.
-    let left : at k (without n s.streams) ≡ Some z = ap (at k) (sym streams) ∙ f in
-    elim (cases_eq k n) [
-      | inl i ↦ absurd (let no : None ≡ Some z = sym (at_without n s.streams h.rising) ∙ ap (λ j. at j (without n s.streams)) (sym i) ∙ left in cc)
-      | inr ne ↦ h.own k z (sym (at_without_other n k s.streams h.rising ne) ∙ left)
-    ];
+      let left : at k (without n s.streams) ≡ Some z = ap (at k) (sym streams) ∙ f in
+      elim (cases_eq k n) [
+        | inl i ↦ absurd (let no : None ≡ Some z = sym (at_without n s.streams h.rising) ∙ ap (λ j. at j (without n s.streams)) (sym i) ∙ left in cc)
+        | inr ne ↦ h.own k z (sym (at_without_other n k s.streams h.rising ne) ∙ left)
+      ];
   opened = λ k l.
-    let before : at k s.streams ≡ None = h.opened k (subst (λ o. o < k) opened l) in
-    elim (cases_eq k n) [
-      | inl i ↦ ap (at k) streams ∙ ap (λ j. at j (without n s.streams)) i ∙ at_without n s.streams h.rising
-      | inr ne ↦ ap (at k) streams ∙ at_without_other n k s.streams h.rising ne ∙ before
-    ];
+      let before : at k s.streams ≡ None = h.opened k (subst (λ o. o < k) opened l) in
+      elim (cases_eq k n) [
+        | inl i ↦ ap (at k) streams ∙ ap (λ j. at j (without n s.streams)) i ∙ at_without n s.streams h.rising
+        | inr ne ↦ ap (at k) streams ∙ at_without_other n k s.streams h.rising ne ∙ before
+      ];
 }
 
 pub numbers_as : (s s' : State) → s'.streams ≡ s.streams → s'.opened ≡ s.opened → IsNumbered s → IsNumbered s'

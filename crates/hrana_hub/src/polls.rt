@@ -111,7 +111,7 @@ impl Hub {
         requires stream { IsSome (at stream self.old.state.streams) }
         ensures adds { Adds E.told E.SHARED E.meaning E.db E.live E.faults engine.old engine.new self.old self.new
             (λ added. (k : Conn) (x : Stream) (reply : Reply) → at conn self.old.state.conns ≡ Some k → at stream self.old.state.streams ≡ Some x
-                → (added ≡ []) × (self.new.state ≡ after_told stream conn k x (Some reply) self.old.state)) }
+            → (added ≡ []) × (self.new.state ≡ after_told stream conn k x (Some reply) self.old.state)) }
         ensures agrees { HubAgrees E.told E.SHARED (E.db engine.new) (E.live engine.new) self.new }
         ensures token { self.new.token ≡ self.old.token }
         ensures later { E.faults engine.old ≤ E.faults engine.new }
@@ -122,13 +122,7 @@ impl Hub {
     }
 
     /// Gives the reply of a poll.
-    fn reply<E: Engine>(
-        &mut self,
-        engine: &mut E,
-        conn: u32,
-        stream: u64,
-        reply: Reply,
-    ) -> Outs
+    fn reply<E: Engine>(&mut self, engine: &mut E, conn: u32, stream: u64, reply: Reply) -> Outs
         requires agrees { HubAgrees E.told E.SHARED (E.db engine.old) (E.live engine.old) self.old }
         requires connection { IsSome (at conn self.old.state.conns) }
         requires stream { IsSome (at stream self.old.state.streams) }
