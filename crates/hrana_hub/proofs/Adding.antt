@@ -1,5 +1,5 @@
 -- What calls of the hub add, one after another.
-use Rattle.std.proofs.Common.{◌≡◌, ◌≤◌, ◌+◌, ◌-◌, ◌^◌, min, ℕ, Bool, List, [], ◌∷◌, ◌++◌, Option, None, Some, IsTrue, option_to_list, append-nil, append_assoc, refl, sym, ap, ◌∙◌, subst, arith, inl, inr}
+use Rattle.std.proofs.Common.{◌≡◌, ◌≤◌, ◌+◌, ℕ, Bool, List, [], ◌∷◌, ◌++◌, Option, None, Some, IsTrue, option_to_list, append-nil, append_assoc, refl, sym, ap, ◌∙◌, subst, arith, inl, inr}
 use Rattle.serial_order.specs.Serial.{Meaning}
 use Rattle.hrana_value.specs.declared.StreamNo.{StreamNo}
 use Rattle.txn_table.specs.Turns.{Turns}

@@ -1,12 +1,11 @@
 -- What of the hub's agreement is left where its streams change.
-use Rattle.std.proofs.Common.{◌≡◌, ◌≢◌, ◌≤◌, ◌<◌, ◌+◌, ◌⊎◌, ℕ, Bool, true, false, cond, List, [], ◌∷◌, length, Option, None, Some, refl, sym, ap, ◌∙◌, subst, arith, inl, inr, nat_cmp}
+use Rattle.std.proofs.Common.{◌≡◌, ◌≢◌, ◌≤◌, ◌<◌, ◌+◌, ℕ, Bool, true, false, cond, [], ◌∷◌, length, None, Some, refl, sym, ap, ◌∙◌, subst, arith, inl, inr, nat_cmp}
 use Rattle.std.specs.List.Sorted.{IsStrictlySortedBy}
 use Rattle.std.specs.BTreeMap.{is_at}
 use Rattle.std.specs.Option.{IsSome}
 use Rattle.std.specs.Map.{keys_of}
 use Rattle.std.proofs.lemmas.Bool.{cases_eq}
 use Rattle.txn_table.specs.Turns.{Turns, has}
-use Rattle.engine_core.specs.Noted.{Noted}
 use Rattle.engine_core.specs.Transactions.{Lives}
 use Rattle.stream_task.specs.Session.{open_of}
 use Rattle.stream_task.specs.Together.{States, Put, Together, IsOwned, AgreesAt, BeganBy, is_open, unit_at, numbered}

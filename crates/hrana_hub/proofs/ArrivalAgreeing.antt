@@ -1,6 +1,6 @@
 -- Arrivals keep the agreement of the hub with the engine.
-use Rattle.std.proofs.Common.{◌≡◌, ◌≢◌, ◌⊎◌, ◌≤◌, ◌<◌, ◌+◌, ℕ, ℤ, Bool, true, false, cond, List, [], ◌∷◌, length, Option, Some, None, Result, Ok, Err, MatchBool, refl, sym, ap, ◌∙◌, subst, arith, inl, inr, nat_lt, nat_le, nat_cmp, ◌||◌, true≢false}
-use Rattle.std.specs.Prelude.{IsTrue, is_some}
+use Rattle.std.proofs.Common.{◌≡◌, ◌≢◌, ◌+◌, ℕ, ℤ, Bool, true, false, cond, List, [], ◌∷◌, length, Option, Some, None, Result, Ok, Err, MatchBool, refl, sym, ap, ◌∙◌, subst, arith, inl, inr, nat_lt, nat_le, nat_cmp, ◌||◌, true≢false}
+use Rattle.std.specs.Prelude.{is_some}
 use Rattle.std.specs.Option.{IsSome}
 use Rattle.std.specs.List.Sorted.{IsStrictlySortedBy}
 use Rattle.std.specs.Map.{keys_of}
@@ -17,7 +17,7 @@ use Rattle.ws_messages.specs.declared.messages.WsRequest.TheVariants as request
 use Rattle.http_wire.specs.declared.outs.Outs.{Outs}
 use Rattle.http_wire.specs.declared.limits.TheConstants.{MAX_BODY_BYTES}
 use Rattle.txn_table.specs.Turns.{Turns, has, with_place, same_stream, placed as place_in}
-use Rattle.txn_table.proofs.StreamLemmas.{same, one_of_same, still_placed}
+use Rattle.txn_table.proofs.StreamLemmas.{same, still_placed}
 use Rattle.engine_core.specs.Noted.{Noted}
 use Rattle.engine_core.specs.Transactions.{Lives}
 use Rattle.stream_task.specs.Checks.{stored_text}
@@ -27,13 +27,13 @@ use Rattle.stream_task.specs.Together.{States, Put, Together, AgreesAt, JoinsTog
 use Rattle.stream_task.specs.declared.session.TxnState.{TxnState}
 use Rattle.stream_task.specs.declared.session.TxnState.TheVariants.{Auto, Deferred, Reading, Writing, Dead, Closed}
 use Rattle.hrana_hub.specs.declared.limits.TheConstants.{MAX_STREAMS}
-use Rattle.hrana_hub.specs.Agrees.{HubAgrees, IsNumbered, IsCounted, IsAhead, open_units}
+use Rattle.hrana_hub.specs.Agrees.{HubAgrees, IsNumbered, IsAhead, open_units}
 use Rattle.hrana_hub.specs.Arrivals.{Went, quiet, accepts, on_hello, closing, with_conn, shut, fresh, opens, opens_unless, with_stream, unopened, asks, asks_at, queues, waiting, with_request, stores, stores_unless, is_full, on_request, on_numbered, if_greeted, on_answer, TurnsStay, IsAfter}
 use Rattle.hrana_hub.specs.Maps.{Numbered, at, put, placed, id_at}
 use Rattle.hrana_hub.specs.State.{Conn, Stream, State, Seen, states_of, state_in}
 use Rattle.hrana_hub.specs.Step.{Goes, ReadText, OpenText, TextFell, Heard, TextSteps, BinarySteps, is_short, with_new_conn}
 use Rattle.hrana_hub.specs.Texts.{put_ask}
-use Rattle.hrana_hub.proofs.Agreeing.{Stays, same_agrees, stays_agrees, ahead_counted}
+use Rattle.hrana_hub.proofs.Agreeing.{same_agrees, stays_agrees}
 use Rattle.hrana_hub.proofs.ArrivalLemmas.{unopened_same}
 use Rattle.hrana_hub.proofs.MapLemmas.{none_some, some_one, at_placed, at_placed_other, rises_placed, at_first, at_later, placed_less, placed_more}
 

@@ -1,13 +1,13 @@
 -- The agreement of a new hub, of one whose entries were taken, and of one without streams.
-use Rattle.std.proofs.Common.{◌≡◌, ◌≤◌, ℕ, Bool, List, [], Option, None, Some, refl, sym, ap, ◌∙◌, subst, arith, is_some, true≢false}
+use Rattle.std.proofs.Common.{◌≡◌, ℕ, Bool, List, [], Option, None, Some, refl, sym, ap, ◌∙◌, subst, arith, is_some, true≢false}
 use Rattle.serial_order.specs.Serial.{Meaning}
 use Rattle.txn_table.specs.Turns.{Turns, no_turns, has}
-use Rattle.engine_core.specs.Transactions.{Lives, View, NoneLive}
+use Rattle.engine_core.specs.Transactions.{View}
 use Rattle.engine_core.specs.declared.statement.BoundStmt.{BoundStmt}
 use Rattle.engine_core.specs.declared.entries.Answer.{Answer}
 use Rattle.stream_task.specs.Leads.{StandsFor, BeginsStanding}
 use Rattle.stream_task.specs.Together.{States, Together, BeginsTogether, IsOwned, unit_at, numbered}
-use Rattle.hrana_hub.specs.Agrees.{HubAgrees, HubStands, IsNumbered, IsCounted, IsNew, NewHubAgrees, TakingAgrees, NothingLives, open_units}
+use Rattle.hrana_hub.specs.Agrees.{IsNumbered, IsCounted, IsNew, NewHubAgrees, TakingAgrees, NothingLives, open_units}
 use Rattle.hrana_hub.specs.State.{Stream, State, Seen, states_of}
 use Rattle.hrana_hub.proofs.MapLemmas.{none_some, rises_nil}
 use Rattle.hrana_hub.proofs.Adding.{alike, hub_stands}

@@ -1,17 +1,16 @@
 -- The end of a stream, and of many one after another.
-use Rattle.std.proofs.Common.{◌≡◌, ◌≢◌, ◌≤◌, ◌<◌, ◌+◌, ◌&&◌, ℕ, Bool, true, false, not, List, [], ◌∷◌, ◌++◌, length, take, drop, get_or, filter, Option, None, Some, option_to_list, refl, sym, ap, ◌∙◌, subst, arith, append-nil, append_assoc, drop_of_length-le, nat_cmp, IsTrue, is_some, true≢false, inl, inr}
+use Rattle.std.proofs.Common.{◌≡◌, ◌≤◌, ◌<◌, ◌+◌, ℕ, Bool, true, false, List, [], ◌∷◌, ◌++◌, length, take, drop, get_or, Option, None, Some, option_to_list, refl, sym, ap, ◌∙◌, subst, arith, append-nil, append_assoc, nat_cmp, IsTrue, is_some, true≢false, inl, inr}
 use Rattle.std.specs.Option.{IsSome}
 use Rattle.std.specs.List.{All}
 use Rattle.std.specs.List.Sorted.{IsStrictlySortedBy}
 use Rattle.std.specs.Map.{keys_of}
 use Rattle.std.proofs.lemmas.Bool.{cases_Bool, cases_eq}
 use Rattle.std.proofs.lemmas.List.Elements.{All-cons}
-use Rattle.std.proofs.lemmas.List.{at_drop_more, drop-drop}
+use Rattle.std.proofs.lemmas.List.{at_drop_more}
 use Rattle.serial_order.specs.Serial.{Meaning}
 use Rattle.hrana_value.specs.declared.StreamNo.{StreamNo}
 use Rattle.http_wire.specs.declared.outs.Outs.{Outs}
 use Rattle.txn_table.specs.Turns.{Turns, has, after_loss}
-use Rattle.engine_core.specs.Noted.{Noted}
 use Rattle.engine_core.specs.Transactions.{Lives}
 use Rattle.engine_core.specs.declared.statement.BoundStmt.{BoundStmt}
 use Rattle.engine_core.specs.declared.entries.Answer.{Answer}
@@ -22,18 +21,18 @@ use Rattle.stream_task.specs.Adds.{undone_of, next_by}
 use Rattle.stream_task.specs.Leads.{EndsLead}
 use Rattle.stream_task.specs.Moved.{version_by, Rests}
 use Rattle.stream_task.specs.Session.{open_of}
-use Rattle.stream_task.specs.Together.{AgreesAt, States, Put, Together, HasEnded, EndsTogether, EachMayPoll, MayPoll, numbered}
+use Rattle.stream_task.specs.Together.{AgreesAt, Put, HasEnded, EndsTogether, EachMayPoll, MayPoll, numbered}
 use Rattle.stream_task.specs.declared.session.TxnState.{TxnState}
 use Rattle.stream_task.specs.declared.session.TxnState.TheVariants.{Auto, Deferred, Reading, Writing, Dead, Closed}
 use Rattle.hrana_hub.specs.Maps.{Numbered, at, without}
 use Rattle.hrana_hub.specs.State.{Conn, Stream, State, Seen, states_of, state_in}
 use Rattle.hrana_hub.specs.Adds.{Adds, LeadsOn}
-use Rattle.hrana_hub.specs.Agrees.{HubAgrees, IsCounted, open_units, HubStands}
+use Rattle.hrana_hub.specs.Agrees.{HubAgrees, open_units, HubStands}
 use Rattle.hrana_hub.specs.Ended.{end_of, ends_of, let_go, without_conn, all_ends, at_its_end, HasLeft, IsGone, Frees}
 use Rattle.hrana_hub.specs.Arrivals.{nothing}
 use Rattle.hrana_hub.specs.Polled.{with_streams}
 use Rattle.hrana_hub.specs.Step.{LostAt}
-use Rattle.hrana_hub.proofs.Adding.{adds_one, adds_on}
+use Rattle.hrana_hub.proofs.Adding.{adds_one}
 use Rattle.hrana_hub.proofs.EntryLemmas.{at_first, without_first, without_unknown, at_without, at_without_other, rising_without}
 use Rattle.hrana_hub.proofs.Waiting.{has_gone, waiters_without}
 use Rattle.hrana_hub.proofs.Agreeing.{state_is, without_states, numbers_without, units_without}

@@ -1,14 +1,11 @@
 -- A poll of a stream is a step of the hub.
-use Rattle.std.proofs.Common.{◌≡◌, ◌≢◌, ◌≤◌, ◌<◌, ◌+◌, ◌-◌, ℕ, Bool, true, false, not, cond, List, [], ◌∷◌, ◌++◌, length, Option, None, Some, option_to_list, MatchBool, refl, sym, ap, ap₂, ◌∙◌, subst, arith, inl, inr, append-nil, is_some, true≢false, ℤ, IsTrue}
+use Rattle.std.proofs.Common.{◌≡◌, ◌≢◌, ◌≤◌, ◌+◌, ◌-◌, ℕ, Bool, true, false, not, List, [], ◌∷◌, ◌++◌, length, Option, None, Some, option_to_list, MatchBool, refl, sym, ap, ◌∙◌, subst, arith, inr, append-nil, is_some, true≢false, ℤ, IsTrue}
 use Rattle.std.specs.Option.{IsSome}
 use Rattle.serial_order.specs.Serial.{Meaning}
-use Rattle.hrana_value.specs.declared.StreamNo.{StreamNo}
-use Rattle.txn_table.specs.Turns.{Turns}
 use Rattle.http_wire.specs.declared.outs.Outs.{Outs}
 use Rattle.stream_requests.specs.declared.replies.Reply.{Reply}
 use Rattle.stream_requests.specs.declared.replies.Reply.TheVariants as reply
 use Rattle.ws_messages.specs.Server.{answering}
-use Rattle.engine_core.specs.Noted.{Noted}
 use Rattle.engine_core.specs.Transactions.{Lives}
 use Rattle.engine_core.specs.declared.statement.BoundStmt.{BoundStmt}
 use Rattle.engine_core.specs.declared.entries.Answer.{Answer}
@@ -17,27 +14,26 @@ use Rattle.engine_core.specs.declared.entries.Entry.TheVariants as entry
 use Rattle.engine_core.specs.declared.entries.How.TheVariants as how
 use Rattle.engine_core.specs.declared.entries.Undo.{Undo}
 use Rattle.engine_core.specs.declared.entries.Undo.TheVariants as undo
-use Rattle.stream_task.specs.Adds.{next_by, seen_in, undone_of}
+use Rattle.stream_task.specs.Adds.{next_by, undone_of}
 use Rattle.stream_task.specs.Leads.{PollsLead}
 use Rattle.stream_task.specs.Moved.{version_by, Rests}
-use Rattle.stream_task.specs.Polls.{Task, Polls, PollsAsks, PollsFirst, with_asks, is_waiting, is_pending}
+use Rattle.stream_task.specs.Polls.{Task, Polls, PollsAsks, with_asks, is_waiting, is_pending}
 use Rattle.stream_task.specs.Table.{Seen as Sees}
-use Rattle.stream_task.specs.Session.{open_of}
 use Rattle.stream_task.specs.Together.{Put, HasPolled, PollsTogether, TurnIsWriters}
 use Rattle.stream_task.specs.declared.session.TxnState.{TxnState}
 use Rattle.stream_task.specs.declared.session.TxnState.TheVariants.{Auto, Deferred, Reading, Writing, Dead, Closed}
 use Rattle.stream_task.specs.declared.task.Poll.{Poll}
-use Rattle.stream_task.specs.declared.task.Poll.TheVariants.{Ready, Pending}
+use Rattle.stream_task.specs.declared.task.Poll.TheVariants.{Ready}
 use Rattle.stream_task.specs.declared.task.Stepped.{Stepped}
 use Rattle.stream_task.specs.declared.task.Stepped.TheVariants as stepped
 use Rattle.stream_task.specs.declared.work.Work.{Work}
 use Rattle.hrana_hub.specs.Maps.{Numbered, at, put, without}
-use Rattle.hrana_hub.specs.State.{Conn, Stream, State, Seen, OnlyPlaces, states_of, with_state}
+use Rattle.hrana_hub.specs.State.{Conn, Stream, State, Seen, states_of, with_state}
 use Rattle.hrana_hub.specs.Adds.{Adds, LeadsOn}
 use Rattle.hrana_hub.specs.Agrees.{HubAgrees, IsAhead, open_units}
 use Rattle.hrana_hub.specs.Ended.{end_of}
 use Rattle.hrana_hub.specs.Arrivals.{nothing, quiet, tells, with_conn, shut}
-use Rattle.hrana_hub.specs.Polled.{Polled, PollFell, IsWriter, with_entry, with_streams, seen_of, reply_in, is_over, polled, streams_left, replied, dropped, is_closed, later_ids, first_id, answer, FellShort}
+use Rattle.hrana_hub.specs.Polled.{Polled, PollFell, with_entry, with_streams, seen_of, reply_in, is_over, polled, streams_left, replied, dropped, is_closed, first_id, answer, FellShort}
 use Rattle.hrana_hub.specs.Settled.{PollsStream, Settles, PollEnds, Tells, Drops, with_task, after_told, after_fall, after_passed, passed}
 use Rattle.hrana_hub.specs.Calls.{is_heard}
 use Rattle.hrana_hub.specs.Step.{is_short, closes_short, Goes, Heard, PolledAt, PollSteps}

@@ -1,4 +1,4 @@
-use Rattle.std.proofs.Common.{◌≡◌, ◌≤◌, ◌++◌, ◌+◌, ◌∙◌, refl, sym, ap, arith, drop, length, append-nil}
+use Rattle.std.proofs.Common.{◌≡◌, ◌≤◌, ◌++◌, ◌∙◌, refl, sym, ap, arith, drop, length, append-nil}
 use Rattle.std.proofs.lemmas.List.{drop-drop, at_drop_all}
 use Rattle.hrana_hub.specs.Ended.{all_ends}
 use Rattle.hrana_hub.specs.State.{State, Seen}

@@ -1,4 +1,4 @@
-use Rattle.std.proofs.Common.{◌≡◌, ◌∙◌, Some, [], refl, sym, ap, subst, take, true≢false}
+use Rattle.std.proofs.Common.{◌≡◌, ◌∙◌, [], refl, sym, ap, subst, take, true≢false}
 use Rattle.hrana_hub.specs.State.{Seen}
 use Rattle.hrana_hub.specs.Adds.{Adds}
 use Rattle.hrana_hub.specs.Agrees.{HubAgrees}

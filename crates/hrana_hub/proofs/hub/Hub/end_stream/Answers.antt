@@ -1,4 +1,4 @@
-use Rattle.std.proofs.Common.{◌≡◌, ◌∙◌, Some, None, refl, sym, ap, subst}
+use Rattle.std.proofs.Common.{◌≡◌, ◌∙◌, None, refl, sym, ap, subst}
 use Rattle.hrana_hub.specs.Maps.{at}
 use Rattle.hrana_hub.specs.State.{Seen}
 use Rattle.hrana_hub.specs.Adds.{Adds}

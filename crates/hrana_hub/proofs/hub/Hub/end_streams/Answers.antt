@@ -1,6 +1,6 @@
-use Rattle.std.proofs.Common.{◌≡◌, ◌≤◌, ◌++◌, ◌+◌, ◌∙◌, refl, sym, ap, arith, get_or, drop, append-nil}
+use Rattle.std.proofs.Common.{◌≡◌, ◌++◌, ◌+◌, ◌∙◌, refl, sym, ap, arith, get_or, drop, append-nil}
 use Rattle.std.proofs.lemmas.List.{at_drop_all}
-use Rattle.hrana_hub.specs.Maps.{at, without}
+use Rattle.hrana_hub.specs.Maps.{without}
 use Rattle.hrana_hub.specs.Ended.{ends_of}
 use Rattle.hrana_hub.specs.State.{State}
 use Rattle.hrana_hub.specs.Polled.{with_streams}

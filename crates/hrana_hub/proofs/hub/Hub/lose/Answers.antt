@@ -1,4 +1,4 @@
-use Rattle.std.proofs.Common.{◌≡◌, ◌≤◌, ◌∙◌, Some, refl, sym, ap, subst, arith}
+use Rattle.std.proofs.Common.{◌≡◌, ◌∙◌, Some, refl, sym, ap, subst}
 use Rattle.hrana_hub.specs.Maps.{at}
 use Rattle.hrana_hub.specs.State.{State, Seen}
 use Rattle.hrana_hub.specs.Ended.{ends_of, without_conn}

@@ -1,11 +1,11 @@
-use Rattle.std.proofs.Common.{◌≡◌, ◌≤◌, ◌∙◌, List, Some, sym, ap, subst, arith}
+use Rattle.std.proofs.Common.{◌≡◌, ◌∙◌, List, Some, ap, subst}
 use Rattle.engine_core.specs.declared.entries.Entry.{Entry}
 use Rattle.hrana_hub.specs.Maps.{at}
 use Rattle.hrana_hub.specs.State.{Conn, Stream, State, Seen}
 use Rattle.hrana_hub.specs.Settled.{PollEnds, after_fall}
 use Rattle.hrana_hub.proofs.Adding.{alike, adds_from}
 use Rattle.hrana_hub.proofs.Agreeing.{places_agrees}
-use Rattle.hrana_hub.proofs.Polling.{Known, both_known, is_known, falls_put, put_agrees, put_token, put_adds, early_fall}
+use Rattle.hrana_hub.proofs.Polling.{Known, both_known, falls_put, put_agrees, put_token, put_adds, early_fall}
 use Rattle.hrana_hub.proofs.hub.Hub.poll_ready.Given as given
 use Rattle.hrana_hub.proofs.hub.Hub.poll_ready.Goals as goal
 

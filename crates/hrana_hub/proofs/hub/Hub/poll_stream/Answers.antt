@@ -2,7 +2,7 @@ use Rattle.std.proofs.Common.{◌≡◌, ◌≤◌, ◌+◌, ◌∙◌, Some, re
 use Rattle.stream_task.specs.declared.task.Poll.TheVariants.{Ready}
 use Rattle.stream_task.specs.declared.task.Stepped.TheVariants.{Idle}
 use Rattle.hrana_hub.specs.Maps.{at, put}
-use Rattle.hrana_hub.specs.State.{Stream, State, Seen}
+use Rattle.hrana_hub.specs.State.{Stream, Seen}
 use Rattle.hrana_hub.specs.Adds.{Adds}
 use Rattle.hrana_hub.specs.Agrees.{HubAgrees, IsAhead}
 use Rattle.hrana_hub.specs.Settled.{PollsStream}

@@ -1,4 +1,4 @@
-use Rattle.std.proofs.Common.{◌≤◌, ◌∙◌, refl, ap, arith, w32}
+use Rattle.std.proofs.Common.{◌∙◌, ap, w32}
 use Rattle.std.proofs.lemmas.Int.{to_z-of_z}
 use Rattle.ws_messages.specs.Server.{answering}
 use Rattle.stream_task.specs.declared.task.Poll.TheVariants.{Ready}

@@ -1,10 +1,9 @@
-use Rattle.std.proofs.Common.{◌≡◌, ◌≤◌, ◌∙◌, refl, sym, ap, subst, arith}
+use Rattle.std.proofs.Common.{◌≡◌, ◌∙◌, refl, sym, ap, subst}
 use Rattle.stream_task.specs.declared.task.Poll.{Poll}
 use Rattle.stream_task.specs.declared.task.Poll.TheVariants.{Ready, Pending}
 use Rattle.stream_task.specs.declared.task.Stepped.{Stepped}
 use Rattle.stream_task.specs.declared.task.Stepped.TheVariants.{Replied, Broke, Ran, Idle}
 use Rattle.hrana_hub.specs.Polled.{FellShort, reply_in}
-use Rattle.hrana_hub.specs.Settled.{Settles}
 use Rattle.hrana_hub.proofs.Adding.{alike, adds_none, adds_as}
 use Rattle.hrana_hub.proofs.Polling.{Known, both_known, falls_put, put_agrees, put_token, put_adds, Settled, settle_fell, settle_quiet}
 use Rattle.hrana_hub.proofs.hub.Hub.settle.Goals as goal

@@ -1,7 +1,7 @@
-use Rattle.std.proofs.Common.{◌<◌, ◌^◌, ◌+◌, ◌-◌, ◌∙◌, sym, ap, subst, arith}
-use Rattle.hrana_hub.specs.State.{State, Seen, with_state}
+use Rattle.std.proofs.Common.{◌∙◌, sym, ap, subst, arith}
+use Rattle.hrana_hub.specs.State.{Seen}
 use Rattle.hrana_hub.specs.Agrees.{HubAgrees, IsAhead}
-use Rattle.hrana_hub.specs.Step.{may_come, counted}
+use Rattle.hrana_hub.specs.Step.{may_come}
 use Rattle.hrana_hub.proofs.Stepping.{fits_comes, fits_few, comes_counted, counted_ahead, counted_agrees, step_adds, frees_counted}
 use Rattle.hrana_hub.proofs.hub.Hub.step.Goals as goal
 
