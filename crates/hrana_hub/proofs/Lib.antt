@@ -12,3 +12,6 @@ pub mod ArrivalLemmas
 pub mod ArrivalAgreeing
 pub mod ArrivalAdding
 pub mod CallLemmas
+pub mod Listed
+pub mod Changes
+pub mod Kept

@@ -10,3 +10,6 @@ pub mod Agrees
 pub mod Adds
 pub mod Calls
 pub mod Lending
+pub mod Run
+pub mod Stories
+pub mod Laws
