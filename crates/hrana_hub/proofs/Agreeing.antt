@@ -13,7 +13,7 @@ use Rattle.stream_task.specs.declared.session.TxnState.{TxnState}
 use Rattle.stream_task.specs.declared.session.TxnState.TheVariants.{Auto, Deferred, Reading, Writing, Dead, Closed}
 use Rattle.hrana_hub.specs.Maps.{Numbered, at, put, without}
 use Rattle.hrana_hub.specs.State.{Stream, State, Seen, OnlyPlaces, states_of, state_in}
-use Rattle.hrana_hub.specs.Agrees.{HubAgrees, IsNumbered, IsCounted, IsAhead, open_units}
+use Rattle.hrana_hub.specs.Agrees.{HubAgrees, IsNumbered, IsCounted, open_units}
 use Rattle.hrana_hub.proofs.EntryLemmas.{at_put, at_put_other, keys_put, at_without, at_without_other, rising_without}
 use Rattle.hrana_hub.proofs.Waiting.{known_put}
 
@@ -134,11 +134,6 @@ units_without n x (e ∷ es) f = by (units_without n x es) (is_at (nat_cmp n) e.
         let units = ap (λ (v : Stream). open_of v.task.session.state) same in
         omega (arith, units)
     by later false g = omega (arith, later g)
-
--- ---- counts
-
-pub ahead_counted : (s : State) → IsAhead s → IsCounted s
-ahead_counted s a = record { streams = omega (arith, a.streams); units = omega (arith, a.units); commits = omega (arith, a.commits) }
 
 -- ---- what has to do with no unit
 

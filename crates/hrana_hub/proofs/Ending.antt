@@ -35,7 +35,7 @@ use Rattle.hrana_hub.specs.Step.{LostAt}
 use Rattle.hrana_hub.proofs.Adding.{adds_one}
 use Rattle.hrana_hub.proofs.EntryLemmas.{at_first, without_first, without_unknown, at_without, at_without_other, rising_without}
 use Rattle.hrana_hub.proofs.Waiting.{has_gone, waiters_without}
-use Rattle.hrana_hub.proofs.Agreeing.{state_is, without_states, numbers_without, units_without}
+use Rattle.hrana_hub.proofs.Agreeing.{without_states, numbers_without, units_without}
 
 -- ---- the stream that stands at a number
 
@@ -133,9 +133,6 @@ module _ {X D : Type 0} (told shared : Bool) (m : Meaning D BoundStmt Answer) (d
 
   pub end_adds : EndsLead told shared m db live faults → Adds told shared m db live faults engine engine' old new (λ added. added ≡ end_of why (at n old.state.streams))
   end_adds law = adds_one x.task.stream engine engine' old.turns did.ended.ends.between old new false _ _ did.ended.ends.adds (end_leads law) (ap option_to_list did.ended.ends.adds.holds ∙ ap (end_of why) (sym did.known))
-
-  pub end_state : new.state ≡ with_streams (without n old.state.streams) old.state
-  end_state = state_is new.state (with_streams (without n old.state.streams) old.state) did.conns did.streams did.opened (did.next ∙ same_next ∙ sym did.agrees.next) (did.version ∙ same_version ∙ sym did.agrees.version) did.events did.stopped
 
   pub end_leaves : HubAgrees told shared (db engine') (live engine') new → HasLeft new.turns (numbered n)
   end_leaves after =

@@ -1,23 +1,21 @@
 -- An event is counted, and comes.
-use Rattle.std.proofs.Common.{◌≡◌, ◌<◌, ◌&&◌, ℕ, Bool, true, false, not, nat_lt, List, [], length, Option, None, Some, MatchBool, refl, sym, ap, ◌∙◌, subst, arith}
+use Rattle.std.proofs.Common.{◌≡◌, ◌<◌, ◌&&◌, ℕ, Bool, true, false, not, nat_lt, List, [], Option, None, Some, MatchBool, refl, sym, ap, subst, arith}
 use Rattle.std.proofs.lemmas.Bool.{ltb-true}
 use Rattle.http_wire.specs.declared.outs.Outs.{Outs}
 use Rattle.serial_order.specs.Serial.{Meaning}
 use Rattle.engine_core.specs.Transactions.{Lives}
 use Rattle.engine_core.specs.declared.statement.BoundStmt.{BoundStmt}
 use Rattle.engine_core.specs.declared.entries.Answer.{Answer}
-use Rattle.engine_core.specs.declared.entries.Entry.{Entry}
-use Rattle.engine_core.specs.declared.entries.Undo.TheVariants as undo
 use Rattle.hrana_hub.specs.declared.events.Event.{Event}
 use Rattle.hrana_hub.specs.declared.events.Event.TheVariants.{Opened, Text, Binary, Lost, Poll, Stop}
-use Rattle.hrana_hub.specs.declared.limits.TheConstants.{MAX_EVENTS, MAX_CONNECTIONS}
+use Rattle.hrana_hub.specs.declared.limits.TheConstants.{MAX_EVENTS}
 use Rattle.hrana_hub.specs.Maps.{at}
 use Rattle.hrana_hub.specs.State.{Conn, State, Seen, with_state}
 use Rattle.hrana_hub.specs.Adds.{Adds}
 use Rattle.hrana_hub.specs.Agrees.{HubAgrees, IsCounted, IsAhead}
 use Rattle.hrana_hub.specs.Arrivals.{nothing, closing, quiet}
-use Rattle.hrana_hub.specs.Ended.{all_ends, at_its_end, LossFrees}
-use Rattle.hrana_hub.specs.Step.{Step, Comes, Goes, Heard, LostAt, TextSteps, BinarySteps, is_short, fits, may_come, may_send, is_unknown, counted, has_room, with_new_conn}
+use Rattle.hrana_hub.specs.Ended.{LossFrees}
+use Rattle.hrana_hub.specs.Step.{Step, Comes, Goes, Heard, TextSteps, BinarySteps, is_short, fits, may_come, counted, with_new_conn}
 use Rattle.hrana_hub.proofs.Adding.{alike, adds_from}
 use Rattle.hrana_hub.proofs.Agreeing.{same_agrees}
 
@@ -51,19 +49,6 @@ counted_ahead s c l = record { streams = omega (arith, c.streams); units = omega
 
 pub counted_agrees : {D : Type 0} (told shared : Bool) (db : D) (live : Lives D) (h : Seen) → HubAgrees told shared db live h → HubAgrees told shared db live (with_state (counted h.state) h)
 counted_agrees told shared db live h a = same_agrees told shared db live h (with_state (counted h.state) h) a (record { streams_are = refl; opened = refl; next = refl; version = refl; events = omega arith; turns = refl; noted = refl; places = omega arith })
-
-unknown : (o : Option Conn) → is_unknown o ≡ true → o ≡ None
-unknown None e = refl
-unknown (Some k) e = absurd (cc)
-
-pub opens_unknown : (s : State) (c : ℕ) → may_come s (Opened c) ≡ true → at c s.conns ≡ None
-opens_unknown s c e = unknown (at c s.conns) (and_right (nat_lt 0 c) (is_unknown (at c s.conns)) (and_left (nat_lt 0 c && is_unknown (at c s.conns)) (nat_lt (length s.conns) MAX_CONNECTIONS) e))
-
-pub opens_few : (s : State) (c : ℕ) → may_come s (Opened c) ≡ true → length s.conns < MAX_CONNECTIONS
-opens_few s c e = ltb-true (length s.conns) MAX_CONNECTIONS (and_right (nat_lt 0 c && is_unknown (at c s.conns)) (nat_lt (length s.conns) MAX_CONNECTIONS) e)
-
-pub sends_room : (s : State) (c : ℕ) (k : Conn) → may_send (at c s.conns) ≡ true → at c s.conns ≡ Some k → has_room k ≡ true
-sends_room s c k e f = sym (ap may_send f) ∙ e
 
 -- ---- the step
 
@@ -108,13 +93,3 @@ binary_gives s new c (Some k) out h = by k.closing h
 
 pub binary_comes : (token : Option (List ℕ)) (shared : Bool) (s new : State) (c : ℕ) (out : Outs) → BinarySteps s c out new → Comes token shared s (Binary c) [] out new
 binary_comes token shared s new c out h = long out _ _ (binary_gives s new c (at c s.conns) out h) h
-
-lost_gives : (s new : State) (c : ℕ) (o : Option Conn) (added : List Entry) (out : Outs) → LostAt s c o added out new → is_short out ≡ false
-lost_gives s new c None added out h = ap is_short h.given
-lost_gives s new c (Some k) added out h = ap is_short h.1
-
-pub lost_comes : (token : Option (List ℕ)) (shared : Bool) (s new : State) (c : ℕ) (added : List Entry) (out : Outs) → LostAt s c (at c s.conns) added out new → Comes token shared s (Lost c) added out new
-lost_comes token shared s new c added out h = long out _ _ (lost_gives s new c (at c s.conns) added out h) h
-
-pub stop_comes : (token : Option (List ℕ)) (shared : Bool) (s new : State) (added : List Entry) (out : Outs) → (added ≡ all_ends undo.Stop s.streams) × (out ≡ nothing) × (new ≡ at_its_end s) → Comes token shared s Stop added out new
-stop_comes token shared s new added out h = long out _ _ (ap is_short h.1) h
