@@ -15,3 +15,4 @@ pub mod CallLemmas
 pub mod Listed
 pub mod Changes
 pub mod Kept
+pub mod Dead
