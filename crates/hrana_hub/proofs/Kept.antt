@@ -16,7 +16,7 @@ use Rattle.hrana_hub.specs.Polled.{Polled, PollFell, reply_in, is_over, polled, 
 use Rattle.hrana_hub.specs.Ended.{without_conn, at_its_end}
 use Rattle.hrana_hub.specs.Step.{counted, new_conn, with_new_conn}
 use Rattle.hrana_hub.specs.Laws.{IsWithin, InEveryRun, LimitsHold}
-use Rattle.hrana_hub.specs.Run.{Run, start, more}
+use Rattle.hrana_hub.specs.Run.{Run, RunFrom, start, more}
 use Rattle.hrana_hub.proofs.Changes.{Change, rests, comes, marks, joins, asks_for, polls, falls, loses, ends, IsMarked, filter_few, step_changes}
 use Rattle.hrana_hub.proofs.EntryLemmas.{at_put, at_put_other, at_without_other, length_put, rising_without}
 use Rattle.hrana_hub.proofs.Listed.{contains_none, contains_without, without_contains, put_cases, placed_cases, without_cases, apart_none, length_placed, length_without, rises_let_go, let_go_cases, let_go_other, let_go_none}
@@ -283,9 +283,12 @@ change_kept shared s added out new h (falls stream x k known heard p) = falls_ke
 change_kept shared s added out new h (loses c k known ended left) = subst Kept (sym left) (loses_kept s c k h known)
 change_kept shared s added out new h (ends ended left) = subst Kept (sym left) (ends_kept s)
 
+pub from_kept : {token : Option (List ℕ)} {shared : Bool} {first : State} {events : List Event} {entries : List (List Entry)} {outs : List Outs} {s : State} → Kept first → RunFrom token shared first events entries outs s → Kept s
+from_kept h start = h
+from_kept {token} {shared} h (more {s = before} run event added out new fit step) = change_kept shared (counted before) added out new (counted_kept before (from_kept h run)) (step_changes token shared before event added out new fit step)
+
 pub run_kept : {token : Option (List ℕ)} {shared : Bool} {events : List Event} {entries : List (List Entry)} {outs : List Outs} {s : State} → Run token shared events entries outs s → Kept s
-run_kept start = first_kept
-run_kept {token} {shared} (more {s = before} run event added out new fit step) = change_kept shared (counted before) added out new (counted_kept before (run_kept run)) (step_changes token shared before event added out new fit step)
+run_kept run = from_kept first_kept run
 
 pub limits : InEveryRun LimitsHold
 limits token shared events entries outs s run = (let h = run_kept run in record { connections = h.few; each = λ c k e. (h.conn c k e).within })

@@ -15,3 +15,8 @@ pub mod CallLemmas
 pub mod Listed
 pub mod Changes
 pub mod Kept
+pub mod Dead
+pub mod Answered
+pub mod Paired
+pub mod Telling
+pub mod Following
