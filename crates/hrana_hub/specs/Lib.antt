@@ -10,3 +10,4 @@ pub mod Agrees
 pub mod Adds
 pub mod Calls
 pub mod Lending
+pub mod Run

@@ -1,10 +1,25 @@
 // The lines of a script, one after another.
+ghost use Rattle.std.specs.Prelude.{◌≡◌, ◌+◌, ◌^◌, ◌<◌, ◌≤◌, true, false, [], length, Ok, Err, OnOk, OnErr, IfOk, IfErr};
+ghost use Rattle.std.specs.Io.KnownBytes.{Appends};
+ghost use Rattle.engine_core.specs.Bytes.{AppendsFront, lines_of};
+ghost use Rattle.engine_core.specs.Causes.{Rose};
+ghost use Rattle.engine_core.specs.Transactions.{NoneLive};
+ghost use Rattle.engine_core.specs.declared.limits.TheConstants.{MAX_INPUT_BYTES};
+ghost use Rattle.hrana_hub.specs.Agrees.{HubAgrees};
+ghost use Rattle.hrana_hub.specs.Arrivals.{nothing};
+ghost use Rattle.hrana_hub.specs.State.{first_state};
+ghost use Rattle.hrana_hub.specs.Step.{Step, fits};
+ghost use Rattle.hrana_serve.specs.Notes.{AddsNoted};
+ghost use Rattle.hrana_serve.specs.Printed.{print_outs};
+ghost use Rattle.hrana_serve.specs.Replay.{PlaysAs, Halted, IsLinesStatus, BreaksBy, LastsAs, LastStatus, is_saved, status_at, count_at};
+ghost use Rattle.hrana_serve.specs.Script.{IsLineOf, IsBadLine};
+
 use crate::lines::next_line;
 use crate::notes::{note_entries, run_event};
 use crate::prints::print_outs;
 use crate::script::{LineFail, event_of_line};
 use engine_core::{Engine, Journal, JournalFail, Sink, Status, write_all};
-use hrana_hub::{Event, Hub};
+use hrana_hub::{Event, Hub, nothing_lives_without_streams, taken_entries_leave_agreement};
 use http_wire::Outs;
 use std::alloc::Global;
 
@@ -31,7 +46,12 @@ pub enum LineEnd {
 }
 
 /// The event of a line that isn't empty, where it fits.
-fn next_event(alloc: Global, line: &[u8], hub: &Hub) -> Result<Event, LineFail> {
+fn next_event(alloc: Global, line: &[u8], hub: &Hub) -> Result<Event, LineFail>
+    requires filled { 0 < length line.now }
+    ensures line { IfOk result (λ event. IsLineOf line.now event) }
+    ensures fits { IfOk result (λ event. fits hub.now.state event ≡ true) }
+    ensures none { result ≡ Err LineFail.NoEvent → IsBadLine hub.now.state line.now }
+{
     let event = event_of_line(alloc, line)?;
     if hub.fits(&event) {
         Ok(event)
@@ -41,7 +61,12 @@ fn next_event(alloc: Global, line: &[u8], hub: &Hub) -> Result<Event, LineFail> 
 }
 
 /// Writes what an event gave, in one call where the sink takes it whole.
-fn write_outs<O: Sink>(alloc: Global, outs: &Outs, sink: &mut O) -> Result<(), WriteFail> {
+fn write_outs<O: Sink>(alloc: Global, outs: &Outs, sink: &mut O) -> Result<(), WriteFail>
+    ensures ok { OnOk result (Appends (O.written sink.old) (O.written sink.new) (print_outs outs.now)) }
+    ensures err { OnErr result (AppendsFront (O.written sink.old) (O.written sink.new) (print_outs outs.now)) }
+    ensures fault { result ≡ Err WriteFail.Fault → Rose (O.faults sink.old) (O.faults sink.new) }
+    ensures later { O.faults sink.old ≤ O.faults sink.new }
+{
     let Ok(printed) = print_outs(alloc, outs) else {
         return Err(WriteFail::NoMemory);
     };
@@ -59,7 +84,21 @@ fn play_line<E: Engine, J: Journal, O: Sink>(
     engine: &mut E,
     journal: &mut J,
     sink: &mut O,
-) -> LineEnd {
+) -> LineEnd
+    requires filled { 0 < length line.now }
+    requires agrees { HubAgrees E.told E.SHARED (E.db engine.old) (E.live engine.old) hub.old }
+    requires saved { hub.old.noted.list ≡ [] }
+    ensures adds { AddsNoted E.told E.SHARED E.meaning E.db E.live E.faults engine.old engine.new hub.old hub.new (J.noted journal.old) (J.noted journal.new)
+        (PlaysAs hub.old.token E.SHARED line.now hub.old.state result hub.new.state (O.written sink.old) (O.written sink.new)) }
+    ensures agrees { HubAgrees E.told E.SHARED (E.db engine.new) (E.live engine.new) hub.new }
+    ensures token { hub.new.token ≡ hub.old.token }
+    ensures saved { is_saved result ≡ true → hub.new.noted.list ≡ [] }
+    ensures saving { result ≡ LineEnd.Unsaved JournalFail.Fault → Rose (J.faults journal.old) (J.faults journal.new) }
+    ensures write { result ≡ LineEnd.Unwritten WriteFail.Fault → Rose (O.faults sink.old) (O.faults sink.new) }
+    ensures later { J.faults journal.old ≤ J.faults journal.new }
+    ensures sink_later { O.faults sink.old ≤ O.faults sink.new }
+    ensures engine_later { E.faults engine.old ≤ E.faults engine.new }
+{
     let event = match next_event(alloc, line, hub) {
         Ok(event) => event,
         Err(LineFail::NoEvent) => return LineEnd::Bad,
@@ -85,15 +124,59 @@ pub struct Halt {
     pub saved: bool,
 }
 
+/// How the lines end at this line, from 1, after so many events.
+fn halt_at(end: LineEnd, at: u64, events: u64) -> Halt
+    requires few { events + 1 < 2 ^ 64 }
+    ensures status { result.status ≡ status_at end at }
+    ensures events { result.events ≡ count_at end events }
+    ensures saved { result.saved ≡ is_saved end }
+{
+    let status = match end {
+        LineEnd::Played => Status::Done,
+        LineEnd::Bad => Status::BadScript { line: at },
+        LineEnd::Short => Status::NoMemory,
+        LineEnd::Unsaved(JournalFail::Fault) => Status::JournalFault,
+        LineEnd::Unsaved(JournalFail::NoMemory) => Status::NoMemory,
+        LineEnd::Unwritten(WriteFail::Fault) => Status::WriteFault,
+        LineEnd::Unwritten(WriteFail::NoMemory) => Status::NoMemory,
+    };
+    let (events, saved) = match end {
+        LineEnd::Bad | LineEnd::Short => (events, true),
+        LineEnd::Unsaved(_) => (events + 1, false),
+        LineEnd::Played | LineEnd::Unwritten(_) => (events + 1, true),
+    };
+    Halt {
+        status,
+        events,
+        saved,
+    }
+}
+
 /// Plays the lines of a script up to their end or the first that stops the run.
-fn play_lines<E: Engine, J: Journal, O: Sink>(
+pub fn play_lines<E: Engine, J: Journal, O: Sink>(
     alloc: Global,
     script: &[u8],
     hub: &mut Hub,
     engine: &mut E,
     journal: &mut J,
     sink: &mut O,
-) -> Halt {
+) -> Halt
+    requires fresh { hub.old.state ≡ first_state }
+    requires saved { hub.old.noted.list ≡ [] }
+    requires agrees { HubAgrees E.told E.SHARED (E.db engine.old) (E.live engine.old) hub.old }
+    requires short { length script.now ≤ MAX_INPUT_BYTES }
+    ensures adds { AddsNoted E.told E.SHARED E.meaning E.db E.live E.faults engine.old engine.new hub.old hub.new (J.noted journal.old) (J.noted journal.new)
+        (Halted hub.old.token E.SHARED (lines_of script.now) result.status hub.new.state result.events hub.new.noted.list (O.written sink.old) (O.written sink.new)) }
+    ensures agrees { HubAgrees E.told E.SHARED (E.db engine.new) (E.live engine.new) hub.new }
+    ensures token { hub.new.token ≡ hub.old.token }
+    ensures ends { IsLinesStatus result.status }
+    ensures few { result.events ≤ MAX_INPUT_BYTES + 1 }
+    ensures saved { result.saved ≡ true → hub.new.noted.list ≡ [] }
+    ensures unsaved { result.saved ≡ false → BreaksBy (J.faults journal.old) (J.faults journal.new) result.status }
+    ensures saving { result.status ≡ Status.JournalFault → Rose (J.faults journal.old) (J.faults journal.new) }
+    ensures write { result.status ≡ Status.WriteFault → Rose (O.faults sink.old) (O.faults sink.new) }
+    ensures later { J.faults journal.old ≤ J.faults journal.new }
+{
     let mut events: u64 = 0;
     let mut at: u64 = 0;
     let mut left = Some(script);
@@ -116,31 +199,10 @@ fn play_lines<E: Engine, J: Journal, O: Sink>(
     }
 }
 
-/// How the lines end at this line, from 1, after so many events.
-fn halt_at(end: LineEnd, at: u64, events: u64) -> Halt {
-    let status = match end {
-        LineEnd::Played => Status::Done,
-        LineEnd::Bad => Status::BadScript { line: at },
-        LineEnd::Short => Status::NoMemory,
-        LineEnd::Unsaved(JournalFail::Fault) => Status::JournalFault,
-        LineEnd::Unsaved(JournalFail::NoMemory) => Status::NoMemory,
-        LineEnd::Unwritten(WriteFail::Fault) => Status::WriteFault,
-        LineEnd::Unwritten(WriteFail::NoMemory) => Status::NoMemory,
-    };
-    let (ran, saved) = match end {
-        LineEnd::Bad | LineEnd::Short => (events, true),
-        LineEnd::Unsaved(_) => (events + 1, false),
-        _ => (events + 1, true),
-    };
-    Halt {
-        status,
-        events: ran,
-        saved,
-    }
-}
-
 /// The status of a run whose last entries were noted so. Want of memory of the journal goes before every other.
-fn last_status(status: Status, noted: Result<(), JournalFail>) -> Status {
+fn last_status(status: Status, noted: Result<(), JournalFail>) -> Status
+    ensures { LastsAs status noted result }
+{
     match noted {
         Ok(()) => status,
         Err(JournalFail::NoMemory) => Status::NoMemory,
@@ -151,34 +213,27 @@ fn last_status(status: Status, noted: Result<(), JournalFail>) -> Status {
     }
 }
 
-/// Runs `Stop`, and notes its entries unless the journal has failed before.
-fn stop<E: Engine, J: Journal>(
+/// Runs `Stop`, and notes its entries unless the journal has failed before. The status is the last one of the run.
+pub fn stop<E: Engine, J: Journal>(
     hub: &mut Hub,
     engine: &mut E,
     journal: &mut J,
     halt: Halt,
-) -> Status {
+) -> Status
+    requires fits { fits hub.old.state Event.Stop ≡ true }
+    requires agrees { HubAgrees E.told E.SHARED (E.db engine.old) (E.live engine.old) hub.old }
+    ensures adds { AddsNoted E.told E.SHARED E.meaning E.db E.live E.faults engine.old engine.new hub.old hub.new (J.noted journal.old) (J.noted journal.new)
+        (λ ended. Step hub.old.token E.SHARED hub.old.state Event.Stop ended nothing hub.new.state) }
+    ensures quiet { NoneLive (E.live engine.new) }
+    ensures last { LastStatus halt.saved halt.status result (J.faults journal.old) (J.faults journal.new) hub.new.noted.list }
+    ensures later { J.faults journal.old ≤ J.faults journal.new }
+{
+    taken_entries_leave_agreement::<E>();
+    nothing_lives_without_streams::<E>();
     let _nothing = hub.step(engine, Event::Stop);
     if halt.saved {
         last_status(halt.status, note_entries(hub, journal))
     } else {
         halt.status
-    }
-}
-
-/// Plays the lines of a script over a new hub, and then `Stop`, whatever stopped the lines.
-pub fn play<E: Engine, J: Journal, O: Sink>(
-    alloc: Global,
-    script: &[u8],
-    hub: &mut Hub,
-    engine: &mut E,
-    journal: &mut J,
-    sink: &mut O,
-) -> Halt {
-    let halt = play_lines(alloc, script, hub, engine, journal, sink);
-    Halt {
-        status: stop(hub, engine, journal, halt),
-        events: halt.events,
-        saved: halt.saved,
     }
 }

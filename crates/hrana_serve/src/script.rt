@@ -1,6 +1,7 @@
 // The lines of a script.
-ghost use Rattle.std.specs.Prelude.{◌≡◌, ◌<◌, ◌^◌, ◌++◌, ℕ, decimal, ◌≢◌, List, IsTrue, false, IfOk, IfErr};
-ghost use Rattle.hrana_serve.specs.Script.{IsLineOf};
+ghost use Rattle.std.specs.Prelude.{◌≡◌, ◌<◌, ◌^◌, ◌++◌, ◌∷◌, ◌≢◌, ℕ, List, decimal, IsTrue, false, IfOk, IfErr};
+ghost use Rattle.hrana_hub.specs.declared.events.Event.{Event};
+ghost use Rattle.hrana_serve.specs.Script.{IsLineOf, OneEventALine};
 
 use hrana_hub::Event;
 use hrana_value::{Bytes, StreamNo};
@@ -15,8 +16,18 @@ pub enum LineFail {
     NoMemory,
 }
 
+fn is_same(bytes: &[u8], others: &[u8]) -> bool
+    ensures same { IsTrue result → bytes.now ≡ others.now }
+    ensures differs { result ≡ false → bytes.now ≢ others.now }
+{
+    bytes == others
+}
+
 /// The number that a text writes, without a sign or a leading zero.
-fn number_of(alloc: Global, bytes: &[u8]) -> Result<u64, LineFail> {
+fn number_of(alloc: Global, bytes: &[u8]) -> Result<u64, LineFail>
+    ensures ok { IfOk result (λ n. bytes.now ≡ decimal n) }
+    ensures none { IfErr result (λ err. err ≡ LineFail.NoEvent → (n : ℕ) → n < 2 ^ 64 → bytes.now ≡ decimal n → ⊥) }
+{
     let Ok(text) = std::str::from_utf8(bytes) else {
         return Err(LineFail::NoEvent);
     };
@@ -26,7 +37,7 @@ fn number_of(alloc: Global, bytes: &[u8]) -> Result<u64, LineFail> {
     let Ok(written) = number.to_string(alloc) else {
         return Err(LineFail::NoMemory);
     };
-    if written.as_bytes() == bytes {
+    if is_same(written.as_bytes(), bytes) {
         Ok(number)
     } else {
         Err(LineFail::NoEvent)
@@ -34,7 +45,10 @@ fn number_of(alloc: Global, bytes: &[u8]) -> Result<u64, LineFail> {
 }
 
 /// The number of a connection.
-fn conn_of(alloc: Global, bytes: &[u8]) -> Result<u32, LineFail> {
+fn conn_of(alloc: Global, bytes: &[u8]) -> Result<u32, LineFail>
+    ensures ok { IfOk result (λ n. bytes.now ≡ decimal n) }
+    ensures none { IfErr result (λ err. err ≡ LineFail.NoEvent → (n : ℕ) → n < 2 ^ 32 → bytes.now ≡ decimal n → ⊥) }
+{
     let number = number_of(alloc, bytes)?;
     match u32::try_from(number) {
         Ok(conn) => Ok(conn),
@@ -42,26 +56,35 @@ fn conn_of(alloc: Global, bytes: &[u8]) -> Result<u32, LineFail> {
     }
 }
 
-/// A text of a connection: its number, a space, and the text.
-fn text_of(alloc: Global, bytes: &[u8]) -> Result<Event, LineFail> {
+/// The number of a connection, and the text that follows it and a space.
+fn text_of(alloc: Global, bytes: &[u8]) -> Result<(u32, Bytes), LineFail>
+    ensures ok { IfOk result (λ parts. bytes.now ≡ decimal parts.0 ++ 32 ∷ parts.1) }
+    ensures none { IfErr result (λ err. err ≡ LineFail.NoEvent → (conn : ℕ) (text : List ℕ) → conn < 2 ^ 32 → bytes.now ≡ decimal conn ++ 32 ∷ text → ⊥) }
+{
     let Some(at) = memchr(b' ', bytes) else {
         return Err(LineFail::NoEvent);
     };
     let conn = conn_of(alloc, &bytes[..at])?;
     match Bytes::new(alloc, &bytes[at + 1..]) {
-        Ok(text) => Ok(Event::Text { conn, text }),
+        Ok(text) => Ok((conn, text)),
         Err(_) => Err(LineFail::NoMemory),
     }
 }
 
 /// The event of a line: `+ C`, `> C TEXT`, `# C`, `! N` or `- C`.
-pub fn event_of_line(alloc: Global, line: &[u8]) -> Result<Event, LineFail> {
+pub fn event_of_line(alloc: Global, line: &[u8]) -> Result<Event, LineFail>
+    ensures ok { IfOk result (λ event. IsLineOf line.now event) }
+    ensures none { IfErr result (λ err. err ≡ LineFail.NoEvent → (event : Event) → IsLineOf line.now event → ⊥) }
+{
     match line {
         [b'+', b' ', digits @ ..] => {
             let conn = conn_of(alloc, digits)?;
             Ok(Event::Opened { conn })
         }
-        [b'>', b' ', rest @ ..] => text_of(alloc, rest),
+        [b'>', b' ', rest @ ..] => {
+            let (conn, text) = text_of(alloc, rest)?;
+            Ok(Event::Text { conn, text })
+        }
         [b'#', b' ', digits @ ..] => {
             let conn = conn_of(alloc, digits)?;
             Ok(Event::Binary { conn })
@@ -81,4 +104,6 @@ pub fn event_of_line(alloc: Global, line: &[u8]) -> Result<Event, LineFail> {
 }
 
 /// No line stands for two events.
-pub fn no_line_is_two_events() {}
+pub fn no_line_is_two_events()
+    ensures { OneEventALine }
+{}
