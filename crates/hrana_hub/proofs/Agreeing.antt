@@ -1,11 +1,11 @@
 -- What of the hub's agreement is left where its streams change.
-use Rattle.std.proofs.Common.{◌≡◌, ◌≢◌, ◌≤◌, ◌<◌, ◌+◌, ◌⊎◌, ℕ, Bool, true, false, cond, List, [], ◌∷◌, length, Option, None, Some, refl, sym, ap, ◌∙◌, subst, arith, inl, inr, nat_cmp}
+use Rattle.std.proofs.Common.{◌≡◌, ◌≢◌, ◌≤◌, ◌<◌, ◌+◌, ℕ, Bool, true, false, cond, [], ◌∷◌, length, None, Some, refl, sym, ap, ◌∙◌, subst, arith, inl, inr, nat_cmp}
 use Rattle.std.specs.List.Sorted.{IsStrictlySortedBy}
 use Rattle.std.specs.BTreeMap.{is_at}
+use Rattle.std.specs.Option.{IsSome}
 use Rattle.std.specs.Map.{keys_of}
 use Rattle.std.proofs.lemmas.Bool.{cases_eq}
-use Rattle.txn_table.specs.Turns.{Turns}
-use Rattle.engine_core.specs.Noted.{Noted}
+use Rattle.txn_table.specs.Turns.{Turns, has}
 use Rattle.engine_core.specs.Transactions.{Lives}
 use Rattle.stream_task.specs.Session.{open_of}
 use Rattle.stream_task.specs.Together.{States, Put, Together, IsOwned, AgreesAt, BeganBy, is_open, unit_at, numbered}
@@ -15,6 +15,7 @@ use Rattle.hrana_hub.specs.Maps.{Numbered, at, put, without}
 use Rattle.hrana_hub.specs.State.{Stream, State, Seen, OnlyPlaces, states_of, state_in}
 use Rattle.hrana_hub.specs.Agrees.{HubAgrees, IsNumbered, IsCounted, IsAhead, open_units}
 use Rattle.hrana_hub.proofs.EntryLemmas.{at_put, at_put_other, keys_put, at_without, at_without_other, rising_without}
+use Rattle.hrana_hub.proofs.Waiting.{known_put}
 
 -- ---- equal states
 
@@ -63,31 +64,31 @@ numbers_put s s' n x y e same streams opened h = record {
   rising = subst (IsStrictlySortedBy nat_cmp) (sym (ap keys_of streams ∙ keys_put n y s.streams)) h.rising;
   own = λ k z f. elim (cases_eq k n) [
     | inl i ↦ (let two : Some y ≡ Some z = sym (at_put n x y s.streams e) ∙ ap (λ j. at j (put n y s.streams)) (sym i) ∙ ap (at k) (sym streams) ∙ f in
-      let is : y ≡ z = cc in
-      ap (λ (v : Stream). v.task.stream) (sym is) ∙ same ∙ h.own n x e ∙ ap numbered (sym i))
+        let is : y ≡ z = cc in
+        ap (λ (v : Stream). v.task.stream) (sym is) ∙ same ∙ h.own n x e ∙ ap numbered (sym i))
     | inr ne ↦ h.own k z (sym (at_put_other n k x y s.streams e ne) ∙ ap (at k) (sym streams) ∙ f)
   ];
   opened = λ k l.
-    let before : at k s.streams ≡ None = h.opened k (subst (λ o. o < k) opened l) in
-    let ne : k ≢ n = λ i. (let no : None ≡ Some x = sym before ∙ ap (λ j. at j s.streams) i ∙ e in cc) in
-    ap (at k) streams ∙ at_put_other n k x y s.streams e ne ∙ before;
+      let before : at k s.streams ≡ None = h.opened k (subst (λ o. o < k) opened l) in
+      let ne : k ≢ n = λ i. (let no : None ≡ Some x = sym before ∙ ap (λ j. at j s.streams) i ∙ e in cc) in
+      ap (at k) streams ∙ at_put_other n k x y s.streams e ne ∙ before;
 }
 
 pub numbers_without : (s s' : State) (n : ℕ) → s'.streams ≡ without n s.streams → s'.opened ≡ s.opened → IsNumbered s → IsNumbered s'
 numbers_without s s' n streams opened h = record {
   rising = subst (λ es. IsStrictlySortedBy nat_cmp (keys_of es)) (sym streams) (rising_without n s.streams h.rising);
   own = λ k z f.
-    let left : at k (without n s.streams) ≡ Some z = ap (at k) (sym streams) ∙ f in
-    elim (cases_eq k n) [
-      | inl i ↦ absurd (let no : None ≡ Some z = sym (at_without n s.streams h.rising) ∙ ap (λ j. at j (without n s.streams)) (sym i) ∙ left in cc)
-      | inr ne ↦ h.own k z (sym (at_without_other n k s.streams h.rising ne) ∙ left)
-    ];
+      let left : at k (without n s.streams) ≡ Some z = ap (at k) (sym streams) ∙ f in
+      elim (cases_eq k n) [
+        | inl i ↦ absurd (let no : None ≡ Some z = sym (at_without n s.streams h.rising) ∙ ap (λ j. at j (without n s.streams)) (sym i) ∙ left in cc)
+        | inr ne ↦ h.own k z (sym (at_without_other n k s.streams h.rising ne) ∙ left)
+      ];
   opened = λ k l.
-    let before : at k s.streams ≡ None = h.opened k (subst (λ o. o < k) opened l) in
-    elim (cases_eq k n) [
-      | inl i ↦ ap (at k) streams ∙ ap (λ j. at j (without n s.streams)) i ∙ at_without n s.streams h.rising
-      | inr ne ↦ ap (at k) streams ∙ at_without_other n k s.streams h.rising ne ∙ before
-    ];
+      let before : at k s.streams ≡ None = h.opened k (subst (λ o. o < k) opened l) in
+      elim (cases_eq k n) [
+        | inl i ↦ ap (at k) streams ∙ ap (λ j. at j (without n s.streams)) i ∙ at_without n s.streams h.rising
+        | inr ne ↦ ap (at k) streams ∙ at_without_other n k s.streams h.rising ne ∙ before
+      ];
 }
 
 pub numbers_as : (s s' : State) → s'.streams ≡ s.streams → s'.opened ≡ s.opened → IsNumbered s → IsNumbered s'
@@ -155,12 +156,27 @@ pub record Stays (old new : Seen) (streams : Numbered Stream) : Type 0 where
 counts_stay : (old new : Seen) (streams : Numbered Stream) → Stays old new streams → IsCounted old.state → IsCounted new.state
 counts_stay old new streams s h = record { streams = omega (arith, s.opened, s.events, h.streams); units = omega (arith, s.next, s.events, h.units); commits = omega (arith, s.version, s.events, h.commits) }
 
+-- nothing changed but the list of entries, and the places for more
+pub stays_same : (old new : Seen) → new.state ≡ old.state → new.turns ≡ old.turns → new.noted.next ≡ old.noted.next → old.noted.spare ≤ new.noted.spare → Stays old new old.state.streams
+stays_same old new state turns next places = record {
+  streams_are = ap (λ (s : State). s.streams) state;
+  opened = ap (λ (s : State). s.opened) state;
+  next = ap (λ (s : State). s.next) state;
+  version = ap (λ (s : State). s.version) state;
+  events = (let e = ap (λ (s : State). s.events) state in omega (arith, e));
+  turns = turns;
+  noted = next;
+  places = places;
+}
+
 module _ {D : Type 0} (told shared : Bool) (db : D) (live : Lives D) (old new : Seen) where
-  agrees_still : (streams : Numbered Stream) → HubAgrees told shared db live old → Stays old new streams → ((k : ℕ) → states_of streams k ≡ states_of old.state.streams k) → IsNumbered new.state → open_units streams ≤ old.noted.spare → HubAgrees told shared db live new
-  agrees_still streams h s same numbers units = record {
+  agrees_still : (streams : Numbered Stream) → HubAgrees told shared db live old → Stays old new streams → ((k : ℕ) → states_of streams k ≡ states_of old.state.streams k) → ((k : ℕ) → IsSome (at k old.state.streams) → IsSome (at k streams))
+      → IsNumbered new.state → open_units streams ≤ old.noted.spare → HubAgrees told shared db live new
+  agrees_still streams h s same known numbers units = record {
     together = subst (λ t. Together told shared db live t new.noted.next (states_of new.state.streams)) (sym s.turns)
         (subst (λ n. Together told shared db live old.turns n (states_of new.state.streams)) (sym s.noted)
         (together_as told shared db live old.turns old.noted.next (states_of old.state.streams) (states_of new.state.streams) (λ k. ap (λ es. states_of es k) s.streams_are ∙ same k) h.together));
+    waiters = λ k w. subst (λ es. IsSome (at k es)) (sym s.streams_are) (known k (h.waiters k (sym (ap (λ (t : Turns). has (numbered k) t.waiters) s.turns) ∙ w)));
     numbers = numbers;
     version = s.version ∙ h.version ∙ ap (λ (t : Turns). t.version) (sym s.turns);
     next = s.next ∙ h.next ∙ sym s.noted;
@@ -170,23 +186,14 @@ module _ {D : Type 0} (told shared : Bool) (db : D) (live : Lives D) (old new : 
 
   -- the streams are the same
   pub same_agrees : HubAgrees told shared db live old → Stays old new old.state.streams → HubAgrees told shared db live new
-  same_agrees h s = agrees_still old.state.streams h s (λ k. refl) (numbers_as old.state new.state s.streams_are s.opened h.numbers) h.places
+  same_agrees h s = agrees_still old.state.streams h s (λ k. refl) (λ k some. some) (numbers_as old.state new.state s.streams_are s.opened h.numbers) h.places
 
   -- one has another task in the same state
   pub stays_agrees : (n : ℕ) (x y : Stream) → HubAgrees told shared db live old → at n old.state.streams ≡ Some x → y.task.stream ≡ x.task.stream → y.task.session.state ≡ x.task.session.state → Stays old new (put n y old.state.streams) → HubAgrees told shared db live new
   stays_agrees n x y h e stream state s =
       let units = units_put n x y old.state.streams e in
       let opens = ap open_of state in
-      agrees_still (put n y old.state.streams) h s (same_states n x y old.state.streams e state) (numbers_put old.state new.state n x y e stream s.streams_are s.opened h.numbers) (omega (arith, units, opens, h.places))
+      agrees_still (put n y old.state.streams) h s (same_states n x y old.state.streams e state) (λ k some. known_put n k x y old.state.streams e some) (numbers_put old.state new.state n x y e stream s.streams_are s.opened h.numbers) (omega (arith, units, opens, h.places))
 
   pub places_agrees : HubAgrees told shared db live old → OnlyPlaces old new → HubAgrees told shared db live new
-  places_agrees h o = same_agrees h (record {
-    streams_are = ap (λ (s : State). s.streams) o.state;
-    opened = ap (λ (s : State). s.opened) o.state;
-    next = ap (λ (s : State). s.next) o.state;
-    version = ap (λ (s : State). s.version) o.state;
-    events = (let e = ap (λ (s : State). s.events) o.state in omega (arith, e));
-    turns = o.turns;
-    noted = o.next;
-    places = o.places;
-  })
+  places_agrees h o = same_agrees h (stays_same old new o.state o.turns o.next o.places)

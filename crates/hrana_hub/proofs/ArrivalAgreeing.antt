@@ -1,6 +1,7 @@
 -- Arrivals keep the agreement of the hub with the engine.
-use Rattle.std.proofs.Common.{◌≡◌, ◌≢◌, ◌⊎◌, ◌≤◌, ◌<◌, ◌+◌, ℕ, ℤ, Bool, true, false, cond, List, [], ◌∷◌, length, Option, Some, None, Result, Ok, Err, MatchBool, refl, sym, ap, ◌∙◌, subst, arith, inl, inr, nat_lt, nat_le, nat_cmp, ◌||◌}
-use Rattle.std.specs.Prelude.{IsTrue}
+use Rattle.std.proofs.Common.{◌≡◌, ◌≢◌, ◌+◌, ℕ, ℤ, Bool, true, false, cond, List, [], ◌∷◌, length, Option, Some, None, Result, Ok, Err, MatchBool, refl, sym, ap, ◌∙◌, subst, arith, inl, inr, nat_lt, nat_le, nat_cmp, ◌||◌, true≢false}
+use Rattle.std.specs.Prelude.{is_some}
+use Rattle.std.specs.Option.{IsSome}
 use Rattle.std.specs.List.Sorted.{IsStrictlySortedBy}
 use Rattle.std.specs.Map.{keys_of}
 use Rattle.std.proofs.lemmas.Bool.{cases_Bool, cases_eq, cases_order}
@@ -16,7 +17,7 @@ use Rattle.ws_messages.specs.declared.messages.WsRequest.TheVariants as request
 use Rattle.http_wire.specs.declared.outs.Outs.{Outs}
 use Rattle.http_wire.specs.declared.limits.TheConstants.{MAX_BODY_BYTES}
 use Rattle.txn_table.specs.Turns.{Turns, has, with_place, same_stream, placed as place_in}
-use Rattle.txn_table.proofs.StreamLemmas.{same, one_of_same, still_placed}
+use Rattle.txn_table.proofs.StreamLemmas.{same, still_placed}
 use Rattle.engine_core.specs.Noted.{Noted}
 use Rattle.engine_core.specs.Transactions.{Lives}
 use Rattle.stream_task.specs.Checks.{stored_text}
@@ -26,29 +27,29 @@ use Rattle.stream_task.specs.Together.{States, Put, Together, AgreesAt, JoinsTog
 use Rattle.stream_task.specs.declared.session.TxnState.{TxnState}
 use Rattle.stream_task.specs.declared.session.TxnState.TheVariants.{Auto, Deferred, Reading, Writing, Dead, Closed}
 use Rattle.hrana_hub.specs.declared.limits.TheConstants.{MAX_STREAMS}
-use Rattle.hrana_hub.specs.Agrees.{HubAgrees, IsNumbered, IsCounted, IsAhead, open_units}
+use Rattle.hrana_hub.specs.Agrees.{HubAgrees, IsNumbered, IsAhead, open_units}
 use Rattle.hrana_hub.specs.Arrivals.{Went, quiet, accepts, on_hello, closing, with_conn, shut, fresh, opens, opens_unless, with_stream, unopened, asks, asks_at, queues, waiting, with_request, stores, stores_unless, is_full, on_request, on_numbered, if_greeted, on_answer, TurnsStay, IsAfter}
 use Rattle.hrana_hub.specs.Maps.{Numbered, at, put, placed, id_at}
 use Rattle.hrana_hub.specs.State.{Conn, Stream, State, Seen, states_of, state_in}
 use Rattle.hrana_hub.specs.Step.{Goes, ReadText, OpenText, TextFell, Heard, TextSteps, BinarySteps, is_short, with_new_conn}
 use Rattle.hrana_hub.specs.Texts.{put_ask}
-use Rattle.hrana_hub.proofs.Agreeing.{Stays, same_agrees, stays_agrees, ahead_counted}
+use Rattle.hrana_hub.proofs.Agreeing.{same_agrees, stays_agrees}
 use Rattle.hrana_hub.proofs.ArrivalLemmas.{unopened_same}
 use Rattle.hrana_hub.proofs.MapLemmas.{none_some, some_one, at_placed, at_placed_other, rises_placed, at_first, at_later, placed_less, placed_more}
 
 -- ---- what arrivals do to the streams
 
 -- they are as before, one was asked one thing more, or one was opened
-data Moves (s s' : State) : Type 0 where
+pub data Moves (s s' : State) : Type 0 where
   keeps_all : s'.streams ≡ s.streams → s'.opened ≡ s.opened → Moves s s'
   puts_one : (n : ℕ) (x y : Stream) → at n s.streams ≡ Some x → y.task.stream ≡ x.task.stream → y.task.session.state ≡ x.task.session.state → s'.streams ≡ put n y s.streams → s'.opened ≡ s.opened → Moves s s'
   adds_one : (c : ℕ) → s'.streams ≡ placed (s.opened + 1) (fresh c (s.opened + 1)) s.streams → s'.opened ≡ s.opened + 1 → Moves s s'
 
-record Arrived (s s' : State) : Type 0 where
-  next : s'.next ≡ s.next
-  version : s'.version ≡ s.version
-  events : s'.events ≡ s.events
-  moves : Moves s s'
+pub record Arrived (s s' : State) : Type 0 where
+  pub next : s'.next ≡ s.next
+  pub version : s'.version ≡ s.version
+  pub events : s'.events ≡ s.events
+  pub moves : Moves s s'
 
 none_arrived : (s : State) → Arrived s s
 none_arrived s = record { next = refl; version = refl; events = refl; moves = keeps_all refl refl }
@@ -150,18 +151,18 @@ heard_arrived s (Some k) Does out new does h = by k.closing h
     by true g = left_arrived s s new g.left (none_arrived s)
     by false g = does k g
 
-text_arrived : (token : Option (List ℕ)) (s : State) (c : ℕ) (text : List ℕ) (out : Outs) (new : State) → TextSteps token s c text out new → Arrived s new
+pub text_arrived : (token : Option (List ℕ)) (s : State) (c : ℕ) (text : List ℕ) (out : Outs) (new : State) → TextSteps token s c text out new → Arrived s new
 text_arrived token s c text out new = by (is_short out)
   where
     by : (b : Bool) → MatchBool b (TextFell s c (at c s.conns) text [] out new) (Heard s (at c s.conns) (λ k. OpenText token s c k text [] out new) [] out new) → Arrived s new
     by true h = fell_arrived s c (at c s.conns) text out new h
     by false h = heard_arrived s (at c s.conns) (λ k. OpenText token s c k text [] out new) out new (λ k g. open_arrived token s c k text out new g) h
 
-binary_arrived : (s : State) (c : ℕ) (out : Outs) (new : State) → BinarySteps s c out new → Arrived s new
+pub binary_arrived : (s : State) (c : ℕ) (out : Outs) (new : State) → BinarySteps s c out new → Arrived s new
 binary_arrived s c out new h =
     heard_arrived s (at c s.conns) (λ k. Goes (closing c k None 1003 s) [] out new) out new (λ k g. left_arrived s (with_conn c (shut k) s) new g.left (conn_arrived c (shut k) s)) h
 
-new_arrived : (s : State) (c : ℕ) (closing : Bool) (new : State) → new ≡ with_new_conn c closing s → Arrived s new
+pub new_arrived : (s : State) (c : ℕ) (closing : Bool) (new : State) → new ≡ with_new_conn c closing s → Arrived s new
 new_arrived s c closing new e = left_arrived s (with_new_conn c closing s) new e (record { next = refl; version = refl; events = refl; moves = keeps_all refl refl })
 
 -- ---- one more place in the table of turns
@@ -211,6 +212,7 @@ with_turns t h = record { token = h.token; state = h.state; turns = t; noted = h
 place_agrees : {D : Type 0} (told shared : Bool) (db : D) (live : Lives D) (h : Seen) (t : Turns) (s : StreamNo) → t ≡ with_place h.turns s → HubAgrees told shared db live h → HubAgrees told shared db live (with_turns t h)
 place_agrees told shared db live h t s e a = subst (λ (u : Turns). HubAgrees told shared db live (with_turns u h)) (sym e) (record {
   together = place_together told shared db live h.turns h.noted.next (states_of h.state.streams) s a.together;
+  waiters = a.waiters;
   numbers = a.numbers;
   version = a.version;
   next = a.next;
@@ -221,6 +223,7 @@ place_agrees told shared db live h t s e a = subst (λ (u : Turns). HubAgrees to
 turns_agree : {D : Type 0} (told shared : Bool) (db : D) (live : Lives D) (old new : Seen) → TurnsStay old new → HubAgrees told shared db live old → HubAgrees told shared db live (with_turns new.turns old)
 turns_agree told shared db live old new (inl stay) a = subst (λ (t : Turns). HubAgrees told shared db live (with_turns t old)) (sym stay.0) (record {
   together = a.together;
+  waiters = a.waiters;
   numbers = a.numbers;
   version = a.version;
   next = a.next;
@@ -243,8 +246,11 @@ units_placed n x (e ∷ es) none closed = elim (cases_order n e.0) [
   ]
 ]
 
-placed_states : (n : ℕ) (x : Stream) (es : Numbered Stream) → Put (states_of es) (states_of (placed n x es)) n (Some x.task.session.state)
+pub placed_states : (n : ℕ) (x : Stream) (es : Numbered Stream) → Put (states_of es) (states_of (placed n x es)) n (Some x.task.session.state)
 placed_states n x es = record { here = ap state_in (at_placed n x es); others = λ k ne. ap state_in (at_placed_other n k x es ne) }
+
+known_placed : (n k : ℕ) (x : Stream) (es : Numbered Stream) → at n es ≡ None → IsSome (at k es) → IsSome (at k (placed n x es))
+known_placed n k x es none some = ap is_some (at_placed_other n k x es (λ here. true≢false (sym some ∙ ap is_some (ap (λ j. at j es) here ∙ none)))) ∙ some
 
 numbers_joined : (s s' : State) (c : ℕ) → IsNumbered s → s'.streams ≡ placed (s.opened + 1) (fresh c (s.opened + 1)) s.streams → s'.opened ≡ s.opened + 1 → IsNumbered s'
 numbers_joined s s' c h streams opened =
@@ -278,6 +284,7 @@ joined_agrees {D} told shared db live old new c joins ahead a turns noted next v
       together = subst (λ (t : Turns). Together told shared db live t new.noted.next (states_of new.state.streams)) (sym turns)
           (subst (λ m. Together told shared db live (with_place old.turns (numbered n)) m (states_of new.state.streams)) (sym next_same)
           (subst (λ es. Together told shared db live (with_place old.turns (numbered n)) old.noted.next (states_of es)) (sym streams) together));
+      waiters = λ k w. subst (λ es. IsSome (at k es)) (sym streams) (known_placed n k x old.state.streams free (a.waiters k (sym (ap (λ (t : Turns). has (numbered k) t.waiters) turns) ∙ w)));
       numbers = numbers_joined old.state new.state c a.numbers streams opened;
       version = version ∙ (a.version ∙ ap (λ (t : Turns). t.version) (sym turns));
       next = next ∙ (a.next ∙ sym next_same);

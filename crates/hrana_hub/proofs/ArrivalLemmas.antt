@@ -1,33 +1,25 @@
 -- What arrivals leave, said of values.
-use Rattle.std.proofs.Common.{◌≡◌, ◌≢◌, ◌⊎◌, ◌<◌, ◌≤◌, ◌+◌, ℕ, ℤ, Bool, true, false, cond, not, List, [], length, Option, Some, None, Result, Ok, Err, IfOk, refl, sym, ap, ◌∙◌, subst, inl, inr, nat_lt, nat_le}
-use Rattle.std.specs.Prelude.{MatchBool, OnErr, is_err, is_some}
-use Rattle.std.proofs.lemmas.Bool.{false≢true, not-true, le-ltb, ltb-true, or_cases, cond-true, cond-false}
+use Rattle.std.proofs.Common.{◌≡◌, ◌<◌, ◌+◌, ℕ, ℤ, Bool, true, false, List, length, Option, Some, None, Result, Ok, Err, IfOk, refl, sym, ap, ◌∙◌, subst, inl, inr, nat_lt, nat_le}
+use Rattle.std.specs.Prelude.{OnErr, is_err, is_some}
+use Rattle.std.proofs.lemmas.Bool.{false≢true, not-true, ltb-true, or_cases, cond-true, cond-false}
 use Rattle.hrana_value.specs.declared.failures.NoMemory.{NoMemory}
-use Rattle.hrana_value.specs.declared.failures.Decline.{Decline}
-use Rattle.hrana_stmt.specs.declared.codes.Code.TheVariants as code
 use Rattle.stream_requests.specs.declared.asks.Ask.{Ask}
 use Rattle.stream_requests.specs.declared.asks.Ask.TheVariants as ask
 use Rattle.stream_requests.specs.declared.replies.Reply.TheVariants as reply
 use Rattle.ws_messages.specs.Client.{ClientAnswer}
 use Rattle.ws_messages.specs.Server.{answering}
 use Rattle.ws_messages.specs.declared.messages.ClientMsg.{ClientMsg}
-use Rattle.ws_messages.specs.declared.messages.ClientMsg.TheVariants.{Hello, Request}
 use Rattle.ws_messages.specs.declared.messages.MsgFail.{MsgFail}
-use Rattle.ws_messages.specs.declared.messages.MsgFail.TheVariants as fail
-use Rattle.ws_messages.specs.declared.messages.WsRequest.{WsRequest}
-use Rattle.ws_messages.specs.declared.messages.WsRequest.TheVariants as request
 use Rattle.http_wire.specs.declared.outs.Outs.{Outs}
-use Rattle.http_wire.specs.declared.limits.TheConstants.{MAX_BODY_BYTES}
 use Rattle.txn_table.specs.Turns.{Turns, with_place}
 use Rattle.engine_core.specs.Noted.{Noted}
-use Rattle.stream_task.specs.Checks.{stored_text}
 use Rattle.stream_task.specs.Together.{numbered}
 use Rattle.hrana_hub.specs.declared.limits.TheConstants.{MAX_STREAMS, MAX_OUTSTANDING}
-use Rattle.hrana_hub.specs.Arrivals.{Went, nothing, quiet, saying, refusal, with_conn, shut, closing, accepts, on_hello, opens, opens_unless, with_stream, unopened, asks, asks_at, queues, with_request, stores, stores_unless, is_full, on_request, on_numbered, if_greeted, on_answer, TurnsStay, IsAfter, Arrives}
+use Rattle.hrana_hub.specs.Arrivals.{Went, saying, with_conn, shut, closing, opens, opens_unless, with_stream, unopened, asks, asks_at, queues, if_greeted, on_answer, IsAfter, Arrives}
 use Rattle.hrana_hub.specs.Calls.{is_heard}
-use Rattle.hrana_hub.specs.Maps.{Numbered, at, put, id_at}
+use Rattle.hrana_hub.specs.Maps.{Numbered, at, put}
 use Rattle.hrana_hub.specs.State.{Conn, Stream, State, Seen, with_state}
-use Rattle.hrana_hub.specs.Step.{Goes, ReadText, OpenText, TextFell, Heard, TextSteps, Reads, is_short, closes_short, has_room}
+use Rattle.hrana_hub.specs.Step.{Reads, has_room}
 use Rattle.hrana_hub.specs.Texts.{put_ask}
 
 -- ---- what is left

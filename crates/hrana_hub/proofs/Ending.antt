@@ -1,35 +1,40 @@
 -- The end of a stream, and of many one after another.
-use Rattle.std.proofs.Common.{◌≡◌, ◌≢◌, ◌≤◌, ◌<◌, ◌+◌, ◌&&◌, ℕ, Bool, true, false, not, List, [], ◌∷◌, ◌++◌, length, take, drop, get_or, filter, Option, None, Some, option_to_list, refl, sym, ap, ◌∙◌, subst, arith, append-nil, append_assoc, drop_of_length-le, nat_cmp}
+use Rattle.std.proofs.Common.{◌≡◌, ◌≤◌, ◌<◌, ◌+◌, ℕ, Bool, true, false, List, [], ◌∷◌, ◌++◌, length, take, drop, get_or, Option, None, Some, option_to_list, refl, sym, ap, ◌∙◌, subst, arith, append-nil, append_assoc, nat_cmp, IsTrue, is_some, true≢false, inl, inr}
 use Rattle.std.specs.Option.{IsSome}
-use Rattle.std.proofs.lemmas.List.{at_drop_more, drop-drop}
-use Rattle.std.proofs.lemmas.Map.Views.{any-filter_same}
+use Rattle.std.specs.List.{All}
+use Rattle.std.specs.List.Sorted.{IsStrictlySortedBy}
+use Rattle.std.specs.Map.{keys_of}
+use Rattle.std.proofs.lemmas.Bool.{cases_Bool, cases_eq}
+use Rattle.std.proofs.lemmas.List.Elements.{All-cons}
+use Rattle.std.proofs.lemmas.List.{at_drop_more}
 use Rattle.serial_order.specs.Serial.{Meaning}
 use Rattle.hrana_value.specs.declared.StreamNo.{StreamNo}
 use Rattle.http_wire.specs.declared.outs.Outs.{Outs}
-use Rattle.txn_table.specs.Turns.{Turns, has, same_stream, after_loss}
-use Rattle.txn_table.specs.Turns.{without as without_number}
-use Rattle.engine_core.specs.Noted.{Noted}
+use Rattle.txn_table.specs.Turns.{Turns, has, after_loss}
 use Rattle.engine_core.specs.Transactions.{Lives}
 use Rattle.engine_core.specs.declared.statement.BoundStmt.{BoundStmt}
 use Rattle.engine_core.specs.declared.entries.Answer.{Answer}
 use Rattle.engine_core.specs.declared.entries.Entry.{Entry}
 use Rattle.engine_core.specs.declared.entries.Undo.{Undo}
+use Rattle.engine_core.specs.declared.entries.Undo.TheVariants as undo
 use Rattle.stream_task.specs.Adds.{undone_of, next_by}
-use Rattle.stream_task.specs.Moved.{version_by}
+use Rattle.stream_task.specs.Leads.{EndsLead}
+use Rattle.stream_task.specs.Moved.{version_by, Rests}
 use Rattle.stream_task.specs.Session.{open_of}
-use Rattle.stream_task.specs.Together.{AgreesAt, States, Put, Together, HasEnded, EndsTogether, EachMayPoll, MayPoll, numbered}
+use Rattle.stream_task.specs.Together.{AgreesAt, Put, HasEnded, EndsTogether, EachMayPoll, MayPoll, numbered}
 use Rattle.stream_task.specs.declared.session.TxnState.{TxnState}
 use Rattle.stream_task.specs.declared.session.TxnState.TheVariants.{Auto, Deferred, Reading, Writing, Dead, Closed}
 use Rattle.hrana_hub.specs.Maps.{Numbered, at, without}
 use Rattle.hrana_hub.specs.State.{Conn, Stream, State, Seen, states_of, state_in}
-use Rattle.hrana_hub.specs.Adds.{Adds}
-use Rattle.hrana_hub.specs.Agrees.{HubAgrees, IsCounted, open_units}
-use Rattle.hrana_hub.specs.Ended.{end_of, ends_of, let_go, all_ends, HasLeft}
+use Rattle.hrana_hub.specs.Adds.{Adds, LeadsOn}
+use Rattle.hrana_hub.specs.Agrees.{HubAgrees, open_units, HubStands}
+use Rattle.hrana_hub.specs.Ended.{end_of, ends_of, let_go, without_conn, all_ends, at_its_end, HasLeft, IsGone, Frees}
 use Rattle.hrana_hub.specs.Arrivals.{nothing}
 use Rattle.hrana_hub.specs.Polled.{with_streams}
 use Rattle.hrana_hub.specs.Step.{LostAt}
-use Rattle.hrana_hub.proofs.Adding.{adds_one, adds_on}
-use Rattle.hrana_hub.proofs.EntryLemmas.{at_first, without_first, without_unknown}
+use Rattle.hrana_hub.proofs.Adding.{adds_one}
+use Rattle.hrana_hub.proofs.EntryLemmas.{at_first, without_first, without_unknown, at_without, at_without_other, rising_without}
+use Rattle.hrana_hub.proofs.Waiting.{has_gone, waiters_without}
 use Rattle.hrana_hub.proofs.Agreeing.{state_is, without_states, numbers_without, units_without}
 
 -- ---- the stream that stands at a number
@@ -67,11 +72,6 @@ version_undone why Deferred v = refl
 version_undone why (Dead cause) v = refl
 version_undone why Closed v = refl
 
--- ---- a list without a stream
-
-has_gone : (stream : StreamNo) (xs : List StreamNo) → has stream (without_number stream xs) ≡ false
-has_gone stream xs = any-filter_same (λ x. same_stream x stream) (λ x. not (same_stream x stream)) false (λ k e. ap not e) xs
-
 -- ---- one end
 
 -- what the end of the stream at a number did
@@ -97,14 +97,24 @@ module _ {X D : Type 0} (told shared : Bool) (m : Meaning D BoundStmt Answer) (d
       let a = did.ended.ends.adds in
       ap (λ (t : Turns). t.version) did.ended.ends.lost ∙ a.moved.version ∙ ap (λ e. version_by e old.turns.version) a.holds ∙ version_undone why x.task.session.state old.turns.version
 
+  -- the states of the streams, without that of its number
+  states_left : Put (states_of old.state.streams) (states_of new.state.streams) x.task.stream.0 None
+  states_left =
+      let put : Put (states_of old.state.streams) (states_of new.state.streams) n None = subst (λ es. Put (states_of old.state.streams) (states_of es) n None) (sym did.streams) (without_states n old.state.streams did.agrees.numbers.rising) in
+      subst (λ k. Put (states_of old.state.streams) (states_of new.state.streams) k None) (sym (number_of told shared (db engine) (live engine) old n x did.agrees did.known)) put
+
+  its_state : states_of old.state.streams x.task.stream.0 ≡ Some x.task.session.state
+  its_state = state_at told shared (db engine) (live engine) old n x did.agrees did.known
+
   pub end_agrees : EndsTogether told shared m db live faults → HubAgrees told shared (db engine') (live engine') new
   end_agrees law =
       let h = did.agrees in
-      let put : Put (states_of old.state.streams) (states_of new.state.streams) n None = subst (λ es. Put (states_of old.state.streams) (states_of es) n None) (sym did.streams) (without_states n old.state.streams h.numbers.rising) in
-      let number = number_of told shared (db engine) (live engine) old n x h did.known in
+      let ends = did.ended.ends in
+      let own = h.numbers.own n x did.known in
       record {
-        together = law engine engine' old.turns new.turns old.noted new.noted x.task why None (states_of old.state.streams) (states_of new.state.streams) h.together (state_at told shared (db engine) (live engine) old n x h did.known) did.ended refl
-            (subst (λ k. Put (states_of old.state.streams) (states_of new.state.streams) k None) (sym number) put);
+        together = law engine engine' old.turns new.turns old.noted new.noted x.task why None (states_of old.state.streams) (states_of new.state.streams) h.together its_state did.ended refl states_left;
+        waiters = λ k w. subst (λ es. IsSome (at k es)) (sym did.streams)
+            (waiters_without n old.state.streams ends.adds.added old.turns ends.between new.turns h.numbers.rising (subst (λ s. Rests s false ends.adds.added old.turns ends.between) own ends.adds.moved.rests) (ends.lost ∙ ap (after_loss ends.between) own) h.waiters k w);
         numbers = numbers_without old.state new.state n did.streams did.opened h.numbers;
         version = did.version;
         next = did.next;
@@ -116,8 +126,13 @@ module _ {X D : Type 0} (told shared : Bool) (m : Meaning D BoundStmt Answer) (d
         };
       }
 
-  pub end_adds : Adds told (faults engine) (faults engine') old new (λ added. added ≡ end_of why (at n old.state.streams))
-  end_adds = adds_one told m db live faults x.task.stream engine engine' old.turns did.ended.ends.between old new false _ _ did.ended.ends.adds (ap option_to_list did.ended.ends.adds.holds ∙ ap (end_of why) (sym did.known))
+  end_leads : EndsLead told shared m db live faults → IsTrue told → LeadsOn shared m (db engine) (live engine) (db engine') (live engine') old new (option_to_list did.ended.ends.adds.added)
+  end_leads law sure first journal h =
+      subst (λ e. HubStands shared m first (journal ++ option_to_list e) (db engine') (live engine') new) (sym did.ended.ends.adds.holds)
+      (law engine engine' old.turns new.turns old.noted new.noted x.task why None (states_of old.state.streams) (states_of new.state.streams) sure did.agrees.together its_state did.ended refl states_left first journal h)
+
+  pub end_adds : EndsLead told shared m db live faults → Adds told shared m db live faults engine engine' old new (λ added. added ≡ end_of why (at n old.state.streams))
+  end_adds law = adds_one x.task.stream engine engine' old.turns did.ended.ends.between old new false _ _ did.ended.ends.adds (end_leads law) (ap option_to_list did.ended.ends.adds.holds ∙ ap (end_of why) (sym did.known))
 
   pub end_state : new.state ≡ with_streams (without n old.state.streams) old.state
   end_state = state_is new.state (with_streams (without n old.state.streams) old.state) did.conns did.streams did.opened (did.next ∙ same_next ∙ sym did.agrees.next) (did.version ∙ same_version ∙ sym did.agrees.version) did.events did.stopped
@@ -175,3 +190,54 @@ lost_unknown s c conns out unknown is given =
     let same : conns ≡ s.conns = is ∙ without_unknown c s.conns unknown in
     subst (λ o. LostAt s c o [] out (record { conns = conns; streams = s.streams; opened = s.opened; next = s.next; version = s.version; events = s.events; stopped = s.stopped })) (sym unknown)
     (record { none = refl; given = given; left = ap (λ x. record { conns = x; streams = s.streams; opened = s.opened; next = s.next; version = s.version; events = s.events; stopped = s.stopped }) same })
+
+-- ---- a connection that is lost
+
+abbrev pub with_conns : Numbered Conn → State → State
+with_conns conns s = record { conns = conns; streams = s.streams; opened = s.opened; next = s.next; version = s.version; events = s.events; stopped = s.stopped }
+
+pub lost_leaves : (c : ℕ) (k : Conn) (numbers : List ℕ) (conns : Numbered Conn) (h old : Seen) (new : State) → h ≡ old → numbers ≡ k.streams → conns ≡ without c h.state.conns
+    → new ≡ with_streams (let_go numbers h.state.streams) (with_conns conns h.state) → new ≡ without_conn c k old.state
+lost_leaves c k numbers conns h old new is streams rest left =
+    left ∙ ap (λ ns. with_streams (let_go ns h.state.streams) (with_conns conns h.state)) streams ∙ ap (λ cs. with_streams (let_go k.streams h.state.streams) (with_conns cs h.state)) rest ∙ ap (λ (x : Seen). without_conn c k x.state) is
+
+pub lost_known : (s : State) (c : ℕ) (k : Conn) (added : List Entry) (out : Outs) (new : State) → at c s.conns ≡ Some k → added ≡ ends_of undo.Lost k.streams s.streams → out ≡ nothing → new ≡ without_conn c k s → LostAt s c (at c s.conns) added out new
+lost_known s c k added out new known ends given left = subst (λ o. LostAt s c o added out new) (sym known) (ends, given, left)
+
+-- ---- the end of all
+
+abbrev pub stopped_with : Numbered Conn → State → State
+stopped_with conns s = record { conns = conns; streams = s.streams; opened = s.opened; next = s.next; version = s.version; events = s.events; stopped = true }
+
+pub stop_leaves : (conns : Numbered Conn) (s old : State) → conns ≡ [] → s ≡ with_streams [] old → stopped_with conns s ≡ at_its_end old
+stop_leaves conns s old none left = ap (λ cs. stopped_with cs s) none ∙ ap (stopped_with []) left
+
+-- ---- what a loss frees
+
+still_gone : (numbers : List ℕ) (k : ℕ) (es : Numbered Stream) → IsStrictlySortedBy nat_cmp (keys_of es) → at k es ≡ None → at k (let_go numbers es) ≡ None
+still_gone [] k es r e = e
+still_gone (n ∷ numbers) k es r e = still_gone numbers k (without n es) (rising_without n es r) (elim (cases_eq k n) [
+  | inl i ↦ ap (λ j. at j (without n es)) i ∙ at_without n es r
+  | inr ne ↦ at_without_other n k es r ne ∙ e
+])
+
+none_left : (numbers : List ℕ) (es : Numbered Stream) → IsStrictlySortedBy nat_cmp (keys_of es) → All (λ (n : ℕ). at n (let_go numbers es) ≡ None) numbers
+none_left [] es r = λ k d lt. absurd (omega arith)
+none_left (n ∷ numbers) es r =
+    All-cons (λ (k : ℕ). at k (let_go numbers (without n es)) ≡ None) n numbers (still_gone numbers n (without n es) (rising_without n es r) (at_without n es r)) (none_left numbers (without n es) (rising_without n es r))
+
+pub gone : {D : Type 0} (told shared : Bool) (db : D) (live : Lives D) (h : Seen) (n : ℕ) → HubAgrees told shared db live h → at n h.state.streams ≡ None → IsGone h n
+gone told shared db live h n a none = record {
+  stream = none;
+  turn = subst (λ o. AgreesAt told db live h.turns n o) (ap state_in none) (a.together.agree n);
+  waits = elim (cases_Bool (has (numbered n) h.turns.waiters)) [
+    | inl e ↦ absurd (true≢false (sym (a.waiters n e) ∙ ap is_some none))
+    | inr e ↦ e
+  ];
+}
+
+-- the streams of the connection are gone, and so is the connection
+pub lost_frees : {D : Type 0} (told shared : Bool) (db : D) (live : Lives D) (c : ℕ) (o : Option Conn) (k : Conn) (es : Numbered Stream) (new : Seen) → o ≡ Some k → IsStrictlySortedBy nat_cmp (keys_of es)
+    → HubAgrees told shared db live new → new.state.streams ≡ let_go k.streams es → at c new.state.conns ≡ None → Frees c o new
+lost_frees told shared db live c o k es new known r a left none =
+    subst (λ o. Frees c o new) (sym known) (none, λ i d lt. gone told shared db live new _ a (ap (at _) left ∙ none_left k.streams es r i d lt))

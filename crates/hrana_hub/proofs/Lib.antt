@@ -1,11 +1,17 @@
 pub mod MapLemmas
 pub mod TextLemmas
 pub mod EntryLemmas
+pub mod Waiting
 pub mod Agreeing
 pub mod Adding
+pub mod Beginning
 pub mod Ending
 pub mod Polling
 pub mod Stepping
 pub mod ArrivalLemmas
 pub mod ArrivalAgreeing
+pub mod ArrivalAdding
 pub mod CallLemmas
+pub mod Listed
+pub mod Changes
+pub mod Kept

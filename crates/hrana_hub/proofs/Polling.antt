@@ -1,14 +1,11 @@
 -- A poll of a stream is a step of the hub.
-use Rattle.std.proofs.Common.{◌≡◌, ◌≢◌, ◌≤◌, ◌<◌, ◌+◌, ◌-◌, ℕ, Bool, true, false, cond, List, [], ◌∷◌, ◌++◌, length, Option, None, Some, option_to_list, MatchBool, refl, sym, ap, ap₂, ◌∙◌, subst, arith, inl, inr, append-nil, is_some, true≢false, ℤ}
+use Rattle.std.proofs.Common.{◌≡◌, ◌≢◌, ◌≤◌, ◌+◌, ◌-◌, ℕ, Bool, true, false, not, List, [], ◌∷◌, ◌++◌, length, Option, None, Some, option_to_list, MatchBool, refl, sym, ap, ◌∙◌, subst, arith, inr, append-nil, is_some, true≢false, ℤ, IsTrue}
 use Rattle.std.specs.Option.{IsSome}
 use Rattle.serial_order.specs.Serial.{Meaning}
-use Rattle.hrana_value.specs.declared.StreamNo.{StreamNo}
-use Rattle.txn_table.specs.Turns.{Turns}
 use Rattle.http_wire.specs.declared.outs.Outs.{Outs}
 use Rattle.stream_requests.specs.declared.replies.Reply.{Reply}
 use Rattle.stream_requests.specs.declared.replies.Reply.TheVariants as reply
 use Rattle.ws_messages.specs.Server.{answering}
-use Rattle.engine_core.specs.Noted.{Noted}
 use Rattle.engine_core.specs.Transactions.{Lives}
 use Rattle.engine_core.specs.declared.statement.BoundStmt.{BoundStmt}
 use Rattle.engine_core.specs.declared.entries.Answer.{Answer}
@@ -17,31 +14,33 @@ use Rattle.engine_core.specs.declared.entries.Entry.TheVariants as entry
 use Rattle.engine_core.specs.declared.entries.How.TheVariants as how
 use Rattle.engine_core.specs.declared.entries.Undo.{Undo}
 use Rattle.engine_core.specs.declared.entries.Undo.TheVariants as undo
-use Rattle.stream_task.specs.Adds.{next_by, seen_in, undone_of}
-use Rattle.stream_task.specs.Moved.{version_by}
-use Rattle.stream_task.specs.Polls.{Task, Polls, PollsAsks, PollsFirst, with_asks, is_waiting, is_pending}
+use Rattle.stream_task.specs.Adds.{next_by, undone_of}
+use Rattle.stream_task.specs.Leads.{PollsLead}
+use Rattle.stream_task.specs.Moved.{version_by, Rests}
+use Rattle.stream_task.specs.Polls.{Task, Polls, PollsAsks, with_asks, is_waiting, is_pending}
 use Rattle.stream_task.specs.Table.{Seen as Sees}
-use Rattle.stream_task.specs.Session.{open_of}
 use Rattle.stream_task.specs.Together.{Put, HasPolled, PollsTogether, TurnIsWriters}
 use Rattle.stream_task.specs.declared.session.TxnState.{TxnState}
 use Rattle.stream_task.specs.declared.session.TxnState.TheVariants.{Auto, Deferred, Reading, Writing, Dead, Closed}
 use Rattle.stream_task.specs.declared.task.Poll.{Poll}
-use Rattle.stream_task.specs.declared.task.Poll.TheVariants.{Ready, Pending}
+use Rattle.stream_task.specs.declared.task.Poll.TheVariants.{Ready}
 use Rattle.stream_task.specs.declared.task.Stepped.{Stepped}
 use Rattle.stream_task.specs.declared.task.Stepped.TheVariants as stepped
 use Rattle.stream_task.specs.declared.work.Work.{Work}
 use Rattle.hrana_hub.specs.Maps.{Numbered, at, put, without}
-use Rattle.hrana_hub.specs.State.{Conn, Stream, State, Seen, OnlyPlaces, states_of, with_state}
-use Rattle.hrana_hub.specs.Adds.{Adds}
+use Rattle.hrana_hub.specs.State.{Conn, Stream, State, Seen, states_of, with_state}
+use Rattle.hrana_hub.specs.Adds.{Adds, LeadsOn}
 use Rattle.hrana_hub.specs.Agrees.{HubAgrees, IsAhead, open_units}
 use Rattle.hrana_hub.specs.Ended.{end_of}
-use Rattle.hrana_hub.specs.Arrivals.{nothing, tells, with_conn, shut}
-use Rattle.hrana_hub.specs.Polled.{Polled, PollFell, IsWriter, with_entry, with_streams, seen_of, reply_in, is_over, polled, streams_left, replied, dropped, is_closed, later_ids, first_id, answer, FellShort}
+use Rattle.hrana_hub.specs.Arrivals.{nothing, quiet, tells, with_conn, shut}
+use Rattle.hrana_hub.specs.Polled.{Polled, PollFell, with_entry, with_streams, seen_of, reply_in, is_over, polled, streams_left, replied, dropped, is_closed, first_id, answer, FellShort}
 use Rattle.hrana_hub.specs.Settled.{PollsStream, Settles, PollEnds, Tells, Drops, with_task, after_told, after_fall, after_passed, passed}
-use Rattle.hrana_hub.specs.Step.{is_short, closes_short}
-use Rattle.hrana_hub.proofs.Adding.{adds_none, adds_as, adds_one}
+use Rattle.hrana_hub.specs.Calls.{is_heard}
+use Rattle.hrana_hub.specs.Step.{is_short, closes_short, Goes, Heard, PolledAt, PollSteps}
+use Rattle.hrana_hub.proofs.Adding.{Alike, adds_none, adds_from, adds_one}
 use Rattle.hrana_hub.proofs.EntryLemmas.{at_put, put_same, put_put, without_put, length_put}
-use Rattle.hrana_hub.proofs.Agreeing.{state_is, put_states, numbers_put, units_few, stays_agrees}
+use Rattle.hrana_hub.proofs.Waiting.{waiters_put}
+use Rattle.hrana_hub.proofs.Agreeing.{state_is, put_states, same_states, numbers_put, units_few, stays_agrees}
 use Rattle.hrana_hub.proofs.Ending.{number_of, state_at}
 
 -- ---- a poll, before what it gave is told
@@ -92,14 +91,23 @@ module _ {X D : Type 0} (told shared : Bool) (m : Meaning D BoundStmt Answer) (d
   version_left : new.state.version ≡ version_by p.did.adds.added old.state.version
   version_left = p.version ∙ p.did.adds.moved.version ∙ ap (version_by p.did.adds.added) (sym p.agrees.version)
 
+  -- the states of the streams, with the one that its number has now
+  states_left : Put (states_of old.state.streams) (states_of new.state.streams) x.task.stream.0 (Some task.session.state)
+  states_left =
+      let put_at : Put (states_of old.state.streams) (states_of new.state.streams) n (Some task.session.state) = subst (λ es. Put (states_of old.state.streams) (states_of es) n (Some task.session.state)) (sym p.streams) (put_states n x (with_task task x) old.state.streams p.known) in
+      subst (λ k. Put (states_of old.state.streams) (states_of new.state.streams) k (Some task.session.state)) (sym (number_of told shared (db engine) (live engine) old n x p.agrees p.known)) put_at
+
+  its_state : states_of old.state.streams x.task.stream.0 ≡ Some x.task.session.state
+  its_state = state_at told shared (db engine) (live engine) old n x p.agrees p.known
+
   pub poll_agrees : PollsTogether told shared m db live faults → HubAgrees told shared (db engine') (live engine') new
   poll_agrees law =
       let h = p.agrees in
-      let number = number_of told shared (db engine) (live engine) old n x h p.known in
-      let put_at : Put (states_of old.state.streams) (states_of new.state.streams) n (Some task.session.state) = subst (λ es. Put (states_of old.state.streams) (states_of es) n (Some task.session.state)) (sym p.streams) (put_states n x (with_task task x) old.state.streams p.known) in
+      let moved = p.did.adds.moved in
       record {
-        together = law engine engine' old.turns new.turns old.noted new.noted x.task task result (states_of old.state.streams) (states_of new.state.streams) h.together (state_at told shared (db engine) (live engine) old n x h p.known) p.did
-            (subst (λ k. Put (states_of old.state.streams) (states_of new.state.streams) k (Some task.session.state)) (sym number) put_at);
+        together = law engine engine' old.turns new.turns old.noted new.noted x.task task result (states_of old.state.streams) (states_of new.state.streams) h.together its_state p.did states_left;
+        waiters = λ k w. subst (λ es. IsSome (at k es)) (sym p.streams)
+            (waiters_put n x (with_task task x) old.state.streams (is_pending result) p.did.adds.added old.turns new.turns p.known (subst (λ s. Rests s (is_pending result) p.did.adds.added old.turns new.turns) (h.numbers.own n x p.known) moved.rests) h.waiters k w);
         numbers = numbers_put old.state new.state n x (with_task task x) p.known p.did.stream p.streams p.opened h.numbers;
         version = p.version;
         next = p.next;
@@ -125,8 +133,12 @@ module _ {X D : Type 0} (told shared : Bool) (m : Meaning D BoundStmt Answer) (d
         left = state_is new.state (with_entry e (with_streams (put n (with_task task x) old.state.streams) old.state)) p.conns p.streams p.opened next_left version_left p.events p.stopped;
       }
 
-  pub poll_adds : TurnIsWriters old.turns (states_of old.state.streams) → Adds told (faults engine) (faults engine') old new (λ added. (y : Stream) → at n old.state.streams ≡ Some y → PollsStream shared old.state n y added result new.state)
-  poll_adds turn = adds_one told m db live faults x.task.stream engine engine' old.turns new.turns old new (is_pending result) _ _ p.did.adds
+  poll_leads : PollsLead told shared m db live faults → IsTrue told → LeadsOn shared m (db engine) (live engine) (db engine') (live engine') old new (option_to_list p.did.adds.added)
+  poll_leads law sure first journal h = law engine engine' old.turns new.turns old.noted new.noted x.task task result (states_of old.state.streams) (states_of new.state.streams) sure p.agrees.together its_state p.did states_left first journal h
+
+  pub poll_adds : TurnIsWriters old.turns (states_of old.state.streams) → PollsLead told shared m db live faults
+      → Adds told shared m db live faults engine engine' old new (λ added. (y : Stream) → at n old.state.streams ≡ Some y → PollsStream shared old.state n y added result new.state)
+  poll_adds turn law = adds_one x.task.stream engine engine' old.turns new.turns old new (is_pending result) _ _ p.did.adds (poll_leads law)
       (λ y e. (let two : Some x ≡ Some y = sym p.known ∙ e in
       let same : x ≡ y = cc in
       subst (λ v. PollsStream shared old.state n v (option_to_list p.did.adds.added) result new.state) same (here turn)))
@@ -268,6 +280,13 @@ put_token old new n c p = ap (λ (h : Seen). h.token) p.is
 pub put_list : (old new : Seen) (n c : ℕ) → PutBoth old new n c → new.noted.list ≡ old.noted.list
 put_list old new n c p = ap (λ (h : Seen). h.noted.list) p.is
 
+pub put_alike : (old new : Seen) (n c : ℕ) → PutBoth old new n c → Alike old new
+put_alike old new n c p = record {
+  version = ap (λ (h : Seen). h.turns.version) p.is;
+  next = ap (λ (h : Seen). h.noted.next) p.is;
+  states = λ k. ap (λ (h : Seen). states_of h.state.streams k) p.is ∙ same_states n p.before p.after old.state.streams p.known p.state k;
+}
+
 -- ---- a reply that was told
 
 abbrev pub Passes : Seen → Seen → ℕ → ℕ → Type 0
@@ -300,17 +319,22 @@ IsTold old new n c added = (k : Conn) (x : Stream) (reply : Reply) → at c old.
 abbrev pub TellsOver : Seen → ℕ → Bool → Type 0
 TellsOver h n over = (x : Stream) → at n h.state.streams ≡ Some x → over ≡ is_closed x.task.session.state
 
-pub pass_adds : (told : Bool) (f : ℕ) (old new : Seen) (n c : ℕ) (over : Bool) → Known old n c → Passes old new n c → TellsOver old n over → over ≡ false → Adds told f f old new (IsTold old new n c)
-pass_adds told f old new n c over e p o kept = adds_none told f f old new (IsTold old new n c) (omega arith) (put_list old new n c (passes_put old new n c e p))
-    (λ k x reply ek ex. (refl, passed_on old.state new.state n c x k reply (sym (o x ex) ∙ kept) (ap (λ (h : Seen). h.state) (p k x reply ek ex))))
+module _ {X D : Type 0} {told shared : Bool} {m : Meaning D BoundStmt Answer} {db : X → D} {live : X → Lives D} {faults : X → ℕ} where
+  -- a stream and its connection were put, and no entry added
+  pub put_adds : (engine : X) (old new : Seen) (n c : ℕ) (P : List Entry → Type 0) → PutBoth old new n c → P [] → Adds told shared m db live faults engine engine old new P
+  put_adds engine old new n c P put p = adds_none engine old new P (put_list old new n c put) (put_alike old new n c put) p
 
-pub pass_over_adds : (told : Bool) (f g : ℕ) (old mid new : Seen) (n c : ℕ) (over : Bool) → Known old n c → Passes old mid n c → TellsOver old n over → over ≡ true → new.state ≡ with_streams (without n mid.state.streams) mid.state
-    → Adds told f g mid new (λ added. added ≡ end_of undo.Lost (at n mid.state.streams)) → Adds told f g old new (IsTold old new n c)
-pass_over_adds told f g old mid new n c over e p o gone left = adds_as told f g mid old new new _ (IsTold old new n c) (sym (put_list old mid n c (passes_put old mid n c e p))) refl
-    (λ added ends k x reply ek ex.
-    let closed : is_closed x.task.session.state ≡ true = sym (o x ex) ∙ gone in
-    let is : mid.state ≡ after_passed n c k x reply old.state = ap (λ (h : Seen). h.state) (p k x reply ek ex) in
-    (ends ∙ over_ends undo.Lost old.state mid.state n c x k reply closed ex is, passed_over old.state mid.state new.state n c x k reply closed is left))
+  pub pass_adds : (engine : X) (old new : Seen) (n c : ℕ) (over : Bool) → Known old n c → Passes old new n c → TellsOver old n over → over ≡ false → Adds told shared m db live faults engine engine old new (IsTold old new n c)
+  pass_adds engine old new n c over e p o kept = put_adds engine old new n c (IsTold old new n c) (passes_put old new n c e p)
+      (λ k x reply ek ex. (refl, passed_on old.state new.state n c x k reply (sym (o x ex) ∙ kept) (ap (λ (h : Seen). h.state) (p k x reply ek ex))))
+
+  pub pass_over_adds : (engine engine' : X) (old mid new : Seen) (n c : ℕ) (over : Bool) → Known old n c → Passes old mid n c → TellsOver old n over → over ≡ true → new.state ≡ with_streams (without n mid.state.streams) mid.state
+      → Adds told shared m db live faults engine engine' mid new (λ added. added ≡ end_of undo.Lost (at n mid.state.streams)) → Adds told shared m db live faults engine engine' old new (IsTold old new n c)
+  pass_over_adds engine engine' old mid new n c over e p o gone left = adds_from engine engine' old mid new _ (IsTold old new n c) (put_list old mid n c (passes_put old mid n c e p)) (put_alike old mid n c (passes_put old mid n c e p))
+      (λ added ends k x reply ek ex.
+      let closed : is_closed x.task.session.state ≡ true = sym (o x ex) ∙ gone in
+      let is : mid.state ≡ after_passed n c k x reply old.state = ap (λ (h : Seen). h.state) (p k x reply ek ex) in
+      (ends ∙ over_ends undo.Lost old.state mid.state n c x k reply closed ex is, passed_over old.state mid.state new.state n c x k reply closed is left))
 
 -- ---- want of memory
 
@@ -381,3 +405,25 @@ early_fall shared h n c x k out new turn waits given left = short out _ _ (ap is
   given = given;
   left = left;
 })
+
+-- ---- a stream that isn't polled
+
+unheard : (s : State) (o : Option Conn) (Does : Conn → Type 0) (out : Outs) → is_heard o ≡ false → out ≡ nothing → Heard s o Does [] out s
+unheard s None Does out e given = record { none = refl; given = given; left = refl }
+unheard s (Some k) Does out e given = by k.closing e
+  where
+    by : (b : Bool) → not b ≡ false → MatchBool b (Goes (quiet s) [] out s) (Does k)
+    by true f = record { none = refl; given = given; left = refl }
+    by false f = absurd (true≢false f)
+
+pub polls_unknown : (shared : Bool) (s : State) (n : ℕ) (out : Outs) → out ≡ nothing → at n s.streams ≡ None → PollSteps shared s n [] out s
+polls_unknown shared s n out given none = found out _ _ (ap is_short given) (subst (λ o. PolledAt shared s n o [] out s) (sym none) (record { none = refl; given = given; left = refl }))
+
+pub polls_idle : (shared : Bool) (s : State) (n : ℕ) (x : Stream) (out : Outs) → out ≡ nothing → at n s.streams ≡ Some x → is_waiting x.task.asks ≡ false → PollSteps shared s n [] out s
+polls_idle shared s n x out given known idle = found out _ _ (ap is_short given) (subst (λ o. PolledAt shared s n o [] out s) (sym known)
+    (subst (λ b. MatchBool b (Heard s (at x.conn s.conns) (λ k. Polled shared s n x.conn x k [] out s) [] out s) (Goes (quiet s) [] out s)) (sym idle) (record { none = refl; given = given; left = refl })))
+
+pub polls_unheard : (shared : Bool) (s : State) (n : ℕ) (x : Stream) (out : Outs) → out ≡ nothing → at n s.streams ≡ Some x → is_waiting x.task.asks ≡ true → is_heard (at x.conn s.conns) ≡ false → PollSteps shared s n [] out s
+polls_unheard shared s n x out given known waits deaf = found out _ _ (ap is_short given) (subst (λ o. PolledAt shared s n o [] out s) (sym known)
+    (subst (λ b. MatchBool b (Heard s (at x.conn s.conns) (λ k. Polled shared s n x.conn x k [] out s) [] out s) (Goes (quiet s) [] out s)) (sym waits)
+    (unheard s (at x.conn s.conns) (λ k. Polled shared s n x.conn x k [] out s) out deaf given)))

@@ -1,8 +1,11 @@
 -- An event is counted, and comes.
-use Rattle.std.proofs.Common.{◌≡◌, ◌≤◌, ◌<◌, ◌+◌, ◌-◌, ◌^◌, ◌&&◌, ◌⊎◌, ℕ, Bool, true, false, not, nat_lt, List, [], length, Option, None, Some, MatchBool, refl, sym, ap, ◌∙◌, subst, arith, inl, inr}
+use Rattle.std.proofs.Common.{◌≡◌, ◌<◌, ◌&&◌, ℕ, Bool, true, false, not, nat_lt, List, [], length, Option, None, Some, MatchBool, refl, sym, ap, ◌∙◌, subst, arith}
 use Rattle.std.proofs.lemmas.Bool.{ltb-true}
 use Rattle.http_wire.specs.declared.outs.Outs.{Outs}
+use Rattle.serial_order.specs.Serial.{Meaning}
 use Rattle.engine_core.specs.Transactions.{Lives}
+use Rattle.engine_core.specs.declared.statement.BoundStmt.{BoundStmt}
+use Rattle.engine_core.specs.declared.entries.Answer.{Answer}
 use Rattle.engine_core.specs.declared.entries.Entry.{Entry}
 use Rattle.engine_core.specs.declared.entries.Undo.TheVariants as undo
 use Rattle.hrana_hub.specs.declared.events.Event.{Event}
@@ -13,8 +16,9 @@ use Rattle.hrana_hub.specs.State.{Conn, State, Seen, with_state}
 use Rattle.hrana_hub.specs.Adds.{Adds}
 use Rattle.hrana_hub.specs.Agrees.{HubAgrees, IsCounted, IsAhead}
 use Rattle.hrana_hub.specs.Arrivals.{nothing, closing, quiet}
-use Rattle.hrana_hub.specs.Ended.{all_ends, at_its_end}
-use Rattle.hrana_hub.specs.Step.{Step, Comes, Goes, Heard, LostAt, BinarySteps, is_short, fits, may_come, may_send, is_unknown, counted, has_room, with_new_conn}
+use Rattle.hrana_hub.specs.Ended.{all_ends, at_its_end, LossFrees}
+use Rattle.hrana_hub.specs.Step.{Step, Comes, Goes, Heard, LostAt, TextSteps, BinarySteps, is_short, fits, may_come, may_send, is_unknown, counted, has_room, with_new_conn}
+use Rattle.hrana_hub.proofs.Adding.{alike, adds_from}
 use Rattle.hrana_hub.proofs.Agreeing.{same_agrees}
 
 -- ---- what fits
@@ -64,8 +68,24 @@ sends_room s c k e f = sym (ap may_send f) ∙ e
 -- ---- the step
 
 -- what came of the event once it was counted
-pub step_adds : (told shared : Bool) (f g : ℕ) (old mid new : Seen) (event : Event) (out : Outs) → mid ≡ with_state (counted old.state) old → Adds told f g mid new (λ added. Comes mid.token shared mid.state event added out new.state) → Adds told f g old new (λ added. Step old.token shared old.state event added out new.state)
-step_adds told shared f g old mid new event out is a = subst (λ (h : Seen). Adds told f g h new (λ added. Comes h.token shared h.state event added out new.state)) is a
+pub step_adds : {X D : Type 0} {told shared : Bool} {m : Meaning D BoundStmt Answer} {db : X → D} {live : X → Lives D} {faults : X → ℕ} (engine engine' : X) (old mid new : Seen) (event : Event) (out : Outs) → mid ≡ with_state (counted old.state) old
+    → Adds told shared m db live faults engine engine' mid new (λ added. Comes mid.token shared mid.state event added out new.state) → Adds told shared m db live faults engine engine' old new (λ added. Step old.token shared old.state event added out new.state)
+step_adds {shared = shared} engine engine' old mid new event out is a =
+    adds_from engine engine' old mid new _ (λ added. Step old.token shared old.state event added out new.state) (ap (λ (h : Seen). h.noted.list) is)
+    (alike old mid (ap (λ (h : Seen). h.state.streams) is) (ap (λ (h : Seen). h.turns) is) (ap (λ (h : Seen). h.noted.next) is))
+    (λ added c. subst (λ (h : Seen). Comes h.token shared h.state event added out new.state) is c) a
+
+-- what a loss frees is the same where it was counted
+pub frees_counted : (event : Event) (old mid new : Seen) → mid ≡ with_state (counted old.state) old → LossFrees event mid new → LossFrees event old new
+frees_counted event old mid new is h = by event (subst (λ (s : Seen). LossFrees event s new) is h)
+  where
+    by : (e : Event) → LossFrees e (with_state (counted old.state) old) new → LossFrees e old new
+    by (Opened c) f = f
+    by (Text c text) f = f
+    by (Binary c) f = f
+    by (Lost c) f = f
+    by (Poll stream) f = f
+    by Stop f = f
 
 -- ---- what gives no close with 1011
 
@@ -74,6 +94,9 @@ long out A B e b = subst (λ c. MatchBool c A B) (sym e) b
 
 pub opened_comes : (token : Option (List ℕ)) (shared : Bool) (s new : State) (c : ℕ) (out : Outs) → out ≡ nothing → new ≡ with_new_conn c false s → Comes token shared s (Opened c) [] out new
 opened_comes token shared s new c out given left = long out _ _ (ap is_short given) (record { none = refl; given = given; left = left })
+
+pub text_comes : (token : Option (List ℕ)) (shared : Bool) (s new : State) (c : ℕ) (text : List ℕ) (out : Outs) → TextSteps token s c text out new → Comes token shared s (Text c text) [] out new
+text_comes token shared s new c text out h = h
 
 binary_gives : (s new : State) (c : ℕ) (o : Option Conn) (out : Outs) → Heard s o (λ k. Goes (closing c k None 1003 s) [] out new) [] out new → is_short out ≡ false
 binary_gives s new c None out h = ap is_short h.given

@@ -1,5 +1,5 @@
 -- What a call of the hub adds to the entries, with what the engine did for it.
-use Rattle.std.specs.Prelude.{◌≡◌, ◌+◌, ℕ, Bool, List, [], ◌∷◌, ◌++◌, Some, IsTrue}
+use Rattle.std.specs.Prelude.{◌≡◌, ℕ, Bool, List, [], ◌∷◌, ◌++◌, Some, IsTrue}
 use Rattle.serial_order.specs.Serial.{Meaning}
 use Rattle.engine_core.specs.Causes.{RoseBy}
 use Rattle.engine_core.specs.Journal.{fault_count}

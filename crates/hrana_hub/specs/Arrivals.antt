@@ -1,5 +1,5 @@
 -- What a text of a connection does: what is given, and the state then.
-use Rattle.std.specs.Prelude.{◌≡◌, ◌⊎◌, ◌+◌, ℕ, ℤ, Bool, true, false, ◌||◌, nat_lt, nat_le, cond, if◌then◌else◌, length, List, [], ◌∷◌, ◌++◌, Option, None, Some, Result, Ok, Err}
+use Rattle.std.specs.Prelude.{◌≡◌, ◌⊎◌, ◌+◌, ℕ, ℤ, Bool, true, false, ◌||◌, nat_lt, nat_le, cond, length, List, [], ◌∷◌, ◌++◌, Option, None, Some, Result, Ok, Err}
 use Rattle.std.specs.Prelude.{bytes_eq}
 use Rattle.serde_json.specs.Written.{compact_text}
 use Rattle.hrana_value.specs.declared.failures.NoMemory.{NoMemory}
@@ -28,7 +28,7 @@ use Rattle.stream_task.specs.Checks.{stored_text}
 use Rattle.stream_task.specs.Polls.{new_task, asked}
 use Rattle.stream_task.specs.declared.texts.StoredText.{StoredText}
 use Rattle.hrana_hub.specs.declared.limits.TheConstants.{MAX_STREAMS, MAX_STORED_TEXTS, MAX_STORED_BYTES}
-use Rattle.hrana_hub.specs.Maps.{Ids, at, put, placed, id_at, id_placed, without_id}
+use Rattle.hrana_hub.specs.Maps.{at, put, placed, id_at, id_placed, without_id}
 use Rattle.txn_table.specs.Turns.{with_place}
 use Rattle.stream_task.specs.Together.{numbered}
 use Rattle.hrana_hub.specs.State.{Conn, Stream, State, Seen}

@@ -1,8 +1,8 @@
 -- What the calls beside `step` answer.
-use Rattle.std.specs.Prelude.{ℕ, Bool, true, false, not, ◌&&◌, nat_lt, cond, List, [], ◌∷◌, Option, None, Some}
+use Rattle.std.specs.Prelude.{ℕ, Bool, true, false, not, ◌&&◌, nat_lt, cond, [], ◌∷◌, Option, None, Some}
 use Rattle.stream_task.specs.Polls.{is_waiting}
 use Rattle.hrana_hub.specs.Maps.{Numbered, at}
-use Rattle.hrana_hub.specs.State.{Conn, Stream, State}
+use Rattle.hrana_hub.specs.State.{Conn, Stream}
 use Rattle.hrana_hub.specs.Step.{has_room}
 
 -- a connection that isn't known may come

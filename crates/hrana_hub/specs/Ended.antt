@@ -5,14 +5,12 @@ use Rattle.hrana_value.specs.declared.StreamNo.{StreamNo}
 use Rattle.txn_table.specs.Turns.{Turns, has}
 use Rattle.engine_core.specs.declared.entries.Entry.{Entry}
 use Rattle.engine_core.specs.declared.entries.Undo.{Undo}
-use Rattle.engine_core.specs.declared.entries.Undo.TheVariants as undo
 use Rattle.stream_task.specs.Adds.{undone_of}
 use Rattle.hrana_hub.specs.Maps.{Numbered, at, without}
 use Rattle.stream_task.specs.Together.{numbered}
 use Rattle.hrana_hub.specs.declared.events.Event.{Event}
 use Rattle.hrana_hub.specs.declared.events.Event.TheVariants.{Lost}
 use Rattle.hrana_hub.specs.State.{Conn, Stream, State, Seen}
-use Rattle.hrana_hub.specs.Polled.{with_streams}
 
 -- the entry of the unit that a stream has open
 abbrev pub end_of : Undo → Option Stream → List Entry

@@ -11,3 +11,5 @@ pub mod Adds
 pub mod Calls
 pub mod Lending
 pub mod Run
+pub mod Stories
+pub mod Laws

@@ -5,10 +5,9 @@ use Rattle.stream_requests.specs.declared.replies.Reply.{Reply}
 use Rattle.ws_messages.specs.Server.{answering}
 use Rattle.http_wire.specs.declared.outs.Outs.{Outs}
 use Rattle.engine_core.specs.declared.entries.Entry.{Entry}
-use Rattle.engine_core.specs.Noted.{Noted}
 use Rattle.stream_task.specs.Adds.{next_by}
 use Rattle.stream_task.specs.Moved.{version_by}
-use Rattle.stream_task.specs.Polls.{Task, Polls, with_asks, is_waiting}
+use Rattle.stream_task.specs.Polls.{Task, Polls, with_asks}
 use Rattle.stream_task.specs.Table.{Seen}
 use Rattle.stream_task.specs.Together.{States, numbered, is_writing}
 use Rattle.stream_task.specs.declared.session.TxnState.{TxnState}
@@ -17,9 +16,9 @@ use Rattle.stream_task.specs.declared.task.Poll.{Poll}
 use Rattle.stream_task.specs.declared.task.Poll.TheVariants.{Ready}
 use Rattle.stream_task.specs.declared.task.Stepped.{Stepped}
 use Rattle.stream_task.specs.declared.task.Stepped.TheVariants as stepped
-use Rattle.hrana_hub.specs.Maps.{Numbered, at, put, without}
+use Rattle.hrana_hub.specs.Maps.{Numbered, put, without}
 use Rattle.hrana_hub.specs.State.{Conn, Stream, State, states_of}
-use Rattle.hrana_hub.specs.Arrivals.{nothing, tells, shut, closing, with_conn}
+use Rattle.hrana_hub.specs.Arrivals.{nothing, tells, shut, with_conn}
 
 -- who writes is read off the states of the streams, number by number
 abbrev pub IsWriter : States → Option StreamNo → Type 0

@@ -1,5 +1,5 @@
 -- What the hub knows between two events.
-use Rattle.std.specs.Prelude.{◌≡◌, ◌≤◌, ℕ, ℤ, Bool, true, false, List, [], Option, None, Some}
+use Rattle.std.specs.Prelude.{◌≡◌, ◌≤◌, ℕ, ℤ, Bool, false, List, [], Option, None, Some}
 use Rattle.txn_table.specs.Turns.{Turns}
 use Rattle.engine_core.specs.Noted.{Noted}
 use Rattle.stream_task.specs.Polls.{Task}

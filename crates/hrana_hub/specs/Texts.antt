@@ -1,5 +1,5 @@
 -- Stored texts, put into what is asked of a stream.
-use Rattle.std.specs.Prelude.{◌≡◌, ◌+◌, ℕ, ℤ, Bool, not, List, [], ◌∷◌, Option, None, Some, length, filter}
+use Rattle.std.specs.Prelude.{◌+◌, ℕ, ℤ, not, List, [], ◌∷◌, Option, None, Some, length, filter}
 use Rattle.std.specs.Ordering.{int_eq}
 use Rattle.hrana_stmt.specs.declared.statements.Stmt.{Stmt}
 use Rattle.hrana_stmt.specs.declared.statements.SqlRef.{SqlRef}

@@ -102,6 +102,7 @@ impl Connections {
     pub(crate) fn remove(&mut self, conn: u32) -> Option<Connection>
         ensures connection { result ≡ at conn self.old }
         ensures rest { self.new ≡ without conn self.old }
+        ensures gone { at conn self.new ≡ None }
     {
         match self.place(conn) {
             Ok(place) => Some(self.items.remove(place).1),

@@ -3,7 +3,7 @@ ghost use Rattle.std.specs.Prelude.{◌≡◌, ◌≤◌, IsSome, [], take, drop
 ghost use Rattle.stream_task.specs.Together.{numbered};
 ghost use Rattle.hrana_hub.specs.Adds.{Adds};
 ghost use Rattle.hrana_hub.specs.Agrees.{HubAgrees};
-ghost use Rattle.hrana_hub.specs.Ended.{end_of, ends_of, let_go, all_ends, at_its_end, HasLeft};
+ghost use Rattle.hrana_hub.specs.Ended.{end_of, ends_of, let_go, all_ends, at_its_end, HasLeft, Frees};
 ghost use Rattle.hrana_hub.specs.Maps.{at, without};
 ghost use Rattle.hrana_hub.specs.Arrivals.{nothing};
 ghost use Rattle.hrana_hub.specs.Polled.{with_streams};
@@ -13,7 +13,7 @@ use crate::hub::Hub;
 use crate::outs::nothing;
 use engine_core::{Engine, Undo};
 use http_wire::Outs;
-use stream_task::{ends_keep_agreement, streams_agree};
+use stream_task::{ends_keep_agreement, ends_lead_on, streams_agree};
 
 impl Hub {
     /// Ends one stream and lets go of it. It holds no turn then, and waits for none.
@@ -28,6 +28,7 @@ impl Hub {
     {
         streams_agree::<E>();
         ends_keep_agreement::<E>();
+        ends_lead_on::<E>();
         if let Some(slot) = self.slots.remove(&stream) {
             slot.end(engine, &mut self.turns, &mut self.entries, why);
         }
@@ -44,6 +45,7 @@ impl Hub {
     {
         streams_agree::<E>();
         ends_keep_agreement::<E>();
+        ends_lead_on::<E>();
         if let Some((_number, slot)) = self.slots.pop_first() {
             slot.end(engine, &mut self.turns, &mut self.entries, why);
         }
@@ -82,6 +84,7 @@ impl Hub {
         requires { HubAgrees E.told E.SHARED (E.db engine.old) (E.live engine.old) self.old }
         ensures adds { Adds E.told E.SHARED E.meaning E.db E.live E.faults engine.old engine.new self.old self.new (λ added. LostAt self.old.state conn (at conn self.old.state.conns) added result self.new.state) }
         ensures agrees { HubAgrees E.told E.SHARED (E.db engine.new) (E.live engine.new) self.new }
+        ensures freed { Frees conn (at conn self.old.state.conns) self.new }
         ensures token { self.new.token ≡ self.old.token }
         ensures later { E.faults engine.old ≤ E.faults engine.new }
     {

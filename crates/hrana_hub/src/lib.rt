@@ -9,6 +9,7 @@ mod connections;
 mod ends;
 mod events;
 mod hub;
+mod laws;
 mod limits;
 mod outs;
 mod polls;
@@ -21,6 +22,7 @@ pub use agreement::{
 };
 pub use events::Event;
 pub use hub::Hub;
+pub use laws::limits_hold;
 pub use limits::{
     MAX_CONNECTIONS, MAX_EVENTS, MAX_OUTSTANDING, MAX_STORED_BYTES, MAX_STORED_TEXTS, MAX_STREAMS,
     limits_are,

@@ -16,7 +16,7 @@ use engine_core::{Engine, Undo};
 use hrana_value::{NoMemory, StreamNo};
 use http_wire::Outs;
 use stream_requests::Reply;
-use stream_task::{Poll, Stepped, polls_keep_agreement, streams_agree};
+use stream_task::{Poll, Stepped, polls_keep_agreement, polls_lead_on, streams_agree};
 
 impl Hub {
     /// Makes places for a poll's entry and for the ends of all units.
@@ -43,6 +43,7 @@ impl Hub {
     {
         streams_agree::<E>();
         polls_keep_agreement::<E>();
+        polls_lead_on::<E>();
         match self.slots.get_mut(&stream) {
             Some(slot) => slot.poll(engine, &mut self.turns, &mut self.entries),
             None => Poll::Ready(Stepped::Idle),
@@ -110,7 +111,7 @@ impl Hub {
         requires stream { IsSome (at stream self.old.state.streams) }
         ensures adds { Adds E.told E.SHARED E.meaning E.db E.live E.faults engine.old engine.new self.old self.new
             (λ added. (k : Conn) (x : Stream) (reply : Reply) → at conn self.old.state.conns ≡ Some k → at stream self.old.state.streams ≡ Some x
-                → (added ≡ []) × (self.new.state ≡ after_told stream conn k x (Some reply) self.old.state)) }
+            → (added ≡ []) × (self.new.state ≡ after_told stream conn k x (Some reply) self.old.state)) }
         ensures agrees { HubAgrees E.told E.SHARED (E.db engine.new) (E.live engine.new) self.new }
         ensures token { self.new.token ≡ self.old.token }
         ensures later { E.faults engine.old ≤ E.faults engine.new }
@@ -121,13 +122,7 @@ impl Hub {
     }
 
     /// Gives the reply of a poll.
-    fn reply<E: Engine>(
-        &mut self,
-        engine: &mut E,
-        conn: u32,
-        stream: u64,
-        reply: Reply,
-    ) -> Outs
+    fn reply<E: Engine>(&mut self, engine: &mut E, conn: u32, stream: u64, reply: Reply) -> Outs
         requires agrees { HubAgrees E.told E.SHARED (E.db engine.old) (E.live engine.old) self.old }
         requires connection { IsSome (at conn self.old.state.conns) }
         requires stream { IsSome (at stream self.old.state.streams) }

@@ -10,7 +10,7 @@ use crate::events::Event;
 use crate::hub::Hub;
 use engine_core::Engine;
 use http_wire::Outs;
-use stream_task::a_stream_joins;
+use stream_task::{a_joined_stream_stands, a_stream_joins};
 
 impl Hub {
     /// Counts an event.
@@ -28,10 +28,12 @@ impl Hub {
         requires agrees { HubAgrees E.told E.SHARED (E.db engine.old) (E.live engine.old) self.old }
         ensures adds { Adds E.told E.SHARED E.meaning E.db E.live E.faults engine.old engine.new self.old self.new (λ added. Comes self.old.token E.SHARED self.old.state event added result self.new.state) }
         ensures agrees { HubAgrees E.told E.SHARED (E.db engine.new) (E.live engine.new) self.new }
+        ensures freed { LossFrees event self.old self.new }
         ensures token { self.new.token ≡ self.old.token }
         ensures later { E.faults engine.old ≤ E.faults engine.new }
     {
         a_stream_joins::<E>();
+        a_joined_stream_stands::<E>();
         match event {
             Event::Opened { conn } => self.open(conn),
             Event::Text { conn, text } => self.text(conn, text.as_slice()),

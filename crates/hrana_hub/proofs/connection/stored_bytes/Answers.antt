@@ -1,4 +1,4 @@
-use Rattle.std.proofs.Common.{◌≡◌, ◌+◌, ◌^◌, ◌-◌, min, drop, arith}
+use Rattle.std.proofs.Common.{◌≡◌, drop, arith}
 use Rattle.std.proofs.lemmas.List.{at_drop_all}
 use Rattle.hrana_hub.specs.Texts.{stored_bytes}
 use Rattle.hrana_hub.proofs.connection.stored_bytes.Goals as goal

@@ -1,6 +1,6 @@
-use Rattle.std.proofs.Common.{◌≡◌, ◌∙◌, sym, ap, List, ◌∷◌}
+use Rattle.std.proofs.Common.{◌∙◌, sym, ap, List}
 use Rattle.hrana_batch.specs.declared.batches.Step.{Step}
-use Rattle.hrana_hub.specs.Texts.{put_steps, put_step}
+use Rattle.hrana_hub.specs.Texts.{put_steps}
 use Rattle.hrana_hub.proofs.TextLemmas.{steps_behind, put_more}
 use Rattle.hrana_hub.proofs.texts.put_steps.Goals as goal
 

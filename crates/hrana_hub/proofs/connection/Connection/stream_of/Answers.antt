@@ -1,4 +1,4 @@
-use Rattle.std.proofs.Common.{◌∙◌, ap, refl, w32}
+use Rattle.std.proofs.Common.{◌∙◌, ap, w32}
 use Rattle.std.proofs.lemmas.Int.{to_z-of_z}
 use Rattle.hrana_hub.specs.Maps.{id_at}
 use Rattle.hrana_hub.proofs.connection.Connection.stream_of.Goals as goal

@@ -1,6 +1,6 @@
 use Rattle.std.proofs.Common.{◌∙◌, ap, refl, w32}
 use Rattle.std.proofs.lemmas.Int.{to_z-of_z}
-use Rattle.hrana_hub.specs.Maps.{id_at, without_id}
+use Rattle.hrana_hub.specs.Maps.{without_id}
 use Rattle.hrana_hub.proofs.connection.Connection.wait.Goals as goal
 
 pub returns-then-closes : goal.returns-then-closes

@@ -1,7 +1,6 @@
-use Rattle.std.proofs.Common.{◌≡◌, sym, w32}
+use Rattle.std.proofs.Common.{sym, w32}
 use Rattle.std.proofs.lemmas.Int.{to_z-of_z}
 use Rattle.std.proofs.lemmas.Result.{on_err_weaker}
-use Rattle.hrana_hub.specs.State.{Conn}
 use Rattle.hrana_hub.proofs.MapLemmas.{put_kept}
 use Rattle.hrana_hub.proofs.connections.Connections.join.Goals as goal
 

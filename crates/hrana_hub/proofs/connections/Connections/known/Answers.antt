@@ -1,6 +1,6 @@
 use Rattle.std.proofs.Common.{◌∙◌, sym, ap, subst, refl, Some, ℕ, get_or}
 use Rattle.hrana_hub.specs.State.{Conn}
-use Rattle.hrana_hub.specs.Maps.{Numbered, put}
+use Rattle.hrana_hub.specs.Maps.{Numbered}
 use Rattle.hrana_hub.proofs.MapLemmas.{Rises, at_place, set_known, rises_put}
 use Rattle.hrana_hub.proofs.connections.Connections.known.Goals as goal
 

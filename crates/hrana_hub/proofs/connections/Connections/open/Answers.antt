@@ -1,4 +1,4 @@
-use Rattle.std.proofs.Common.{◌≡◌, ◌<◌, ◌≤◌, ◌∙◌, sym, ap, subst, length, arith}
+use Rattle.std.proofs.Common.{◌≡◌, ◌≤◌, ◌∙◌, sym, ap, subst, length, arith}
 use Rattle.hrana_hub.specs.State.{Conn}
 use Rattle.hrana_hub.specs.Step.{new_conn}
 use Rattle.hrana_hub.specs.Maps.{Numbered}

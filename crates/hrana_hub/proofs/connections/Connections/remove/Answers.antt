@@ -1,8 +1,8 @@
 use Rattle.std.proofs.Common.{◌∙◌, sym, ap, subst, Some, ℕ, get_or}
 use Rattle.std.specs.List.{remove}
 use Rattle.hrana_hub.specs.State.{Conn}
-use Rattle.hrana_hub.specs.Maps.{Numbered}
-use Rattle.hrana_hub.proofs.EntryLemmas.{rising_without, without_unknown}
+use Rattle.hrana_hub.specs.Maps.{Numbered, at}
+use Rattle.hrana_hub.proofs.EntryLemmas.{at_without, rising_without, without_unknown}
 use Rattle.hrana_hub.proofs.MapLemmas.{Rises, at_place, remove_place, at_gap}
 use Rattle.hrana_hub.proofs.connections.Connections.remove.Goals as goal
 
@@ -28,3 +28,11 @@ returns-in-Err-clause-connection c = sym (at_gap c.args.conn c.args.self.now c.i
 
 pub returns-in-Err-clause-rest : goal.returns-in-Err-clause-rest
 returns-in-Err-clause-rest c = sym (without_unknown c.args.conn c.args.self.now (at_gap c.args.conn c.args.self.now c.in-Err.field-0 c.in-Err.ensures))
+
+pub returns-in-Ok-clause-gone : goal.returns-in-Ok-clause-gone
+returns-in-Ok-clause-gone c =
+    let left = c.remove.ensures.items ∙ (ap (λ (es : Numbered Conn). remove es c.in-Ok.place) c.self.view_is ∙ remove_place c.args.conn c.args.self.now c.in-Ok.place c.in-Ok.ensures) in
+    ap (at c.args.conn) left ∙ at_without c.args.conn c.args.self.now (subst Rises c.self.view_is c.self.invariant.rising)
+
+pub returns-in-Err-clause-gone : goal.returns-in-Err-clause-gone
+returns-in-Err-clause-gone c = at_gap c.args.conn c.args.self.now c.in-Err.field-0 c.in-Err.ensures

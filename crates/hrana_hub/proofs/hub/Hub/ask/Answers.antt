@@ -1,4 +1,4 @@
-use Rattle.std.proofs.Common.{◌≡◌, ◌∙◌, Option, sym, ap, subst, w32, Some, None, Ok, refl}
+use Rattle.std.proofs.Common.{◌≡◌, ◌∙◌, Option, sym, ap, subst, Some, None, Ok, refl}
 use Rattle.std.specs.Prelude.{IfSome}
 use Rattle.std.proofs.lemmas.Int.{to_z-of_z}
 use Rattle.hrana_stmt.specs.declared.codes.Code.TheVariants as code
@@ -6,7 +6,7 @@ use Rattle.stream_requests.specs.declared.asks.Ask.{Ask}
 use Rattle.stream_task.specs.Doing.{MayBeAsked}
 use Rattle.hrana_hub.specs.Arrivals.{saying, quiet, refusal, asks, unopened, with_request}
 use Rattle.hrana_hub.specs.Maps.{at, id_at}
-use Rattle.hrana_hub.specs.State.{Conn, Seen}
+use Rattle.hrana_hub.specs.State.{Seen}
 use Rattle.hrana_hub.specs.Texts.{put_ask}
 use Rattle.hrana_hub.proofs.ArrivalLemmas.{after, arrives_as, arrives_same, asks_none, asks_unknown, asks_is, unopened_arrives, none_at, some_at}
 use Rattle.hrana_hub.proofs.hub.Hub.ask.Goals as goal

@@ -1,10 +1,12 @@
-use Rattle.std.proofs.Common.{◌≡◌, Some, refl, sym, subst}
+use Rattle.std.proofs.Common.{◌≡◌, ◌∙◌, None, refl, sym, ap, subst}
 use Rattle.hrana_hub.specs.Maps.{at}
 use Rattle.hrana_hub.specs.State.{Seen}
 use Rattle.hrana_hub.specs.Adds.{Adds}
 use Rattle.hrana_hub.specs.Agrees.{HubAgrees}
 use Rattle.hrana_hub.specs.Ended.{end_of}
 use Rattle.hrana_hub.specs.contracts.hub.Hub.{the_view}
+use Rattle.hrana_hub.proofs.Adding.{alike, adds_none}
+use Rattle.hrana_hub.proofs.EntryLemmas.{without_unknown}
 use Rattle.hrana_hub.proofs.Ending.{EndDid, may_poll, end_room, end_adds, end_agrees, end_leaves}
 use Rattle.hrana_hub.proofs.hub.Hub.end_stream.Given as given
 use Rattle.hrana_hub.proofs.hub.Hub.end_stream.Goals as goal
@@ -35,11 +37,20 @@ end-requires-clause-room g c = end_room g.E.Engine.told g.E.Engine.SHARED (g.E.E
 
 pub returns-in-Some-clause-adds : goal.returns-in-Some-clause-adds
 returns-in-Some-clause-adds g c =
-    subst (λ h. Adds g.E.Engine.told (g.E.Engine.faults c.args.engine.now) (g.E.Engine.faults c.end.new.engine) h (after g c) (λ added. added ≡ end_of c.args.why (at c.args.stream h.state.streams))) c.self.view_is
-    (end_adds g.E.Engine.told g.E.Engine.SHARED g.E.Engine.meaning g.E.Engine.db g.E.Engine.live g.E.Engine.faults c.args.engine.now c.end.new.engine c.args.why c.args.stream c.in-Some.slot (the_view c.self.inside) (after g c) (did g c))
+    subst (λ h. Adds g.E.Engine.told g.E.Engine.SHARED g.E.Engine.meaning g.E.Engine.db g.E.Engine.live g.E.Engine.faults c.args.engine.now c.end.new.engine h (after g c) (λ added. added ≡ end_of c.args.why (at c.args.stream h.state.streams))) c.self.view_is
+    (end_adds g.E.Engine.told g.E.Engine.SHARED g.E.Engine.meaning g.E.Engine.db g.E.Engine.live g.E.Engine.faults c.args.engine.now c.end.new.engine c.args.why c.args.stream c.in-Some.slot (the_view c.self.inside) (after g c) (did g c) c.ends_lead_on.ensures)
 
 pub returns-in-Some-clause-agrees : goal.returns-in-Some-clause-agrees
 returns-in-Some-clause-agrees g c = end_agrees g.E.Engine.told g.E.Engine.SHARED g.E.Engine.meaning g.E.Engine.db g.E.Engine.live g.E.Engine.faults c.args.engine.now c.end.new.engine c.args.why c.args.stream c.in-Some.slot (the_view c.self.inside) (after g c) (did g c) c.ends_keep_agreement.ensures
 
 pub returns-in-Some-clause-table : goal.returns-in-Some-clause-table
 returns-in-Some-clause-table g c = λ some. end_leaves g.E.Engine.told g.E.Engine.SHARED g.E.Engine.meaning g.E.Engine.db g.E.Engine.live g.E.Engine.faults c.args.engine.now c.end.new.engine c.args.why c.args.stream c.in-Some.slot (the_view c.self.inside) (after g c) (did g c) (returns-in-Some-clause-agrees g c)
+
+pub returns-in_default-clause-adds : goal.returns-in_default-clause-adds
+returns-in_default-clause-adds g c =
+    let old = the_view c.self.inside in
+    let left : Seen = the_view (record { alloc = c.self.inside.alloc; token = c.self.inside.token; conns = c.self.inside.conns; slots = c.remove.new.self; opened = c.self.inside.opened; events = c.self.inside.events; stopped = c.self.inside.stopped; turns = c.self.inside.turns; entries = c.self.inside.entries }) in
+    let unknown : at c.args.stream old.state.streams ≡ None = sym c.in_default.ensures.value in
+    let same = c.remove.ensures.entries ∙ without_unknown c.args.stream old.state.streams unknown in
+    subst (λ h. Adds g.E.Engine.told g.E.Engine.SHARED g.E.Engine.meaning g.E.Engine.db g.E.Engine.live g.E.Engine.faults c.args.engine.now c.args.engine.now h left (λ added. added ≡ end_of c.args.why (at c.args.stream h.state.streams))) c.self.view_is
+    (adds_none c.args.engine.now old left _ refl (alike old left same refl refl) (sym (ap (end_of c.args.why) unknown)))

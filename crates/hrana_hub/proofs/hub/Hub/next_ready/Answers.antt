@@ -1,8 +1,7 @@
 use Rattle.std.proofs.Common.{◌∙◌, sym, ap}
 use Rattle.hrana_hub.specs.Calls.{first_ready}
-use Rattle.hrana_hub.specs.Maps.{Numbered}
-use Rattle.hrana_hub.specs.State.{Stream, Seen}
-use Rattle.hrana_hub.proofs.CallLemmas.{ready_in, above, ready_above, ready_first, ready_later, ready_none}
+use Rattle.hrana_hub.specs.State.{Seen}
+use Rattle.hrana_hub.proofs.CallLemmas.{ready_in, ready_above, ready_first, ready_later, ready_none}
 use Rattle.hrana_hub.proofs.hub.Hub.next_ready.Goals as goal
 
 pub loop-number-init : goal.loop-number-init

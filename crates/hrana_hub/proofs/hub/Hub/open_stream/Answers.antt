@@ -1,4 +1,4 @@
-use Rattle.std.proofs.Common.{◌≡◌, ◌∙◌, sym, ap, w32, Some, None, Ok, false, length, nat_le}
+use Rattle.std.proofs.Common.{◌≡◌, ◌∙◌, sym, ap, None, Ok, false, length, nat_le}
 use Rattle.std.proofs.lemmas.Int.{to_z-of_z}
 use Rattle.stream_requests.specs.declared.replies.Reply.TheVariants as reply
 use Rattle.ws_messages.specs.Server.{answering}

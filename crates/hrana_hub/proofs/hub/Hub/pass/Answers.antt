@@ -10,7 +10,7 @@ end_stream-requires g c =
 pub returns-then-answered-clause-adds : goal.returns-then-answered-clause-adds
 returns-then-answered-clause-adds g c =
     let known : Known c.args.self.now c.args.stream c.args.conn = both_known _ _ _ c.requires.connection c.requires.stream in
-    pass_over_adds g.E.Engine.told _ _ c.args.self.now c.answered.new.self c.end_stream.new.self c.args.stream c.args.conn c.answered.result known c.answered.ensures.hub c.answered.ensures.over c.if-answered.true c.end_stream.ensures.state c.end_stream.ensures.adds
+    pass_over_adds _ _ c.args.self.now c.answered.new.self c.end_stream.new.self c.args.stream c.args.conn c.answered.result known c.answered.ensures.hub c.answered.ensures.over c.if-answered.true c.end_stream.ensures.state c.end_stream.ensures.adds
 
 pub returns-then-answered-clause-token : goal.returns-then-answered-clause-token
 returns-then-answered-clause-token g c =
@@ -20,7 +20,7 @@ returns-then-answered-clause-token g c =
 pub returns-else-answered-clause-adds : goal.returns-else-answered-clause-adds
 returns-else-answered-clause-adds g c =
     let known : Known c.args.self.now c.args.stream c.args.conn = both_known _ _ _ c.requires.connection c.requires.stream in
-    pass_adds g.E.Engine.told _ c.args.self.now c.answered.new.self c.args.stream c.args.conn c.answered.result known c.answered.ensures.hub c.answered.ensures.over c.if-answered.false
+    pass_adds _ c.args.self.now c.answered.new.self c.args.stream c.args.conn c.answered.result known c.answered.ensures.hub c.answered.ensures.over c.if-answered.false
 
 pub returns-else-answered-clause-agrees : goal.returns-else-answered-clause-agrees
 returns-else-answered-clause-agrees g c =

@@ -1,7 +1,6 @@
 use Rattle.std.proofs.Common.{◌∙◌, ap}
 use Rattle.hrana_hub.specs.Maps.{at}
-use Rattle.hrana_hub.specs.State.{Conn, Stream}
-use Rattle.hrana_hub.specs.Settled.{PollsStream, PollEnds, with_task}
+use Rattle.hrana_hub.specs.Settled.{PollsStream, with_task}
 use Rattle.hrana_hub.proofs.Adding.{adds_on}
 use Rattle.hrana_hub.proofs.Polling.{Known, both_known, is_known, known_left, conns_left, poll_ends}
 use Rattle.hrana_hub.proofs.hub.Hub.poll_placed.Goals as goal
@@ -22,7 +21,7 @@ pub returns-clause-adds : goal.returns-clause-adds
 returns-clause-adds g c =
     let s = c.args.self.now.state in
     let mid = c.poll_stream-polled.new.self.state in
-    adds_on g.E.Engine.told _ _ _ c.args.self.now c.poll_stream-polled.new.self c.settle.new.self _ _ _ c.poll_stream-polled.ensures.later c.settle.ensures.later c.poll_stream-polled.ensures.adds c.settle.ensures.adds
+    adds_on _ _ _ c.args.self.now c.poll_stream-polled.new.self c.settle.new.self _ _ _ c.poll_stream-polled.ensures.later c.settle.ensures.later c.poll_stream-polled.ensures.adds c.settle.ensures.adds
     (λ added more p q k x ek ex.
     let polls : PollsStream g.E.Engine.SHARED s c.args.stream x added c.poll_stream-polled.result mid = p x ex in
     poll_ends g.E.Engine.SHARED s mid c.settle.new.self.state c.args.stream c.args.conn x k added more c.poll_stream-polled.result c.settle.result polls

@@ -1,4 +1,4 @@
-use Rattle.std.proofs.Common.{rules, sym, subst, refl, w32, Ok, Err}
+use Rattle.std.proofs.Common.{rules, refl, w32, Ok, Err}
 use Rattle.std.specs.Prelude.{FitsSigned}
 use Rattle.std.proofs.lemmas.Int.{to_z-of_z}
 use Rattle.ws_messages.specs.Client.{is_message, breaks, is_declined}

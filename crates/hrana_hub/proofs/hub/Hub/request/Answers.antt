@@ -1,4 +1,4 @@
-use Rattle.std.proofs.Common.{rules, subst, sym, w32}
+use Rattle.std.proofs.Common.{rules, w32}
 use Rattle.std.specs.Prelude.{FitsSigned}
 use Rattle.std.proofs.lemmas.Int.{to_z-of_z}
 use Rattle.hrana_hub.proofs.hub.Hub.request.Goals as goal

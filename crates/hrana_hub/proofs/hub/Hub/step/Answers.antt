@@ -1,8 +1,8 @@
-use Rattle.std.proofs.Common.{◌<◌, ◌^◌, ◌+◌, ◌-◌, ◌∙◌, sym, ap, subst, arith}
-use Rattle.hrana_hub.specs.State.{State, Seen, with_state}
+use Rattle.std.proofs.Common.{◌∙◌, sym, ap, subst, arith}
+use Rattle.hrana_hub.specs.State.{Seen}
 use Rattle.hrana_hub.specs.Agrees.{HubAgrees, IsAhead}
-use Rattle.hrana_hub.specs.Step.{may_come, counted}
-use Rattle.hrana_hub.proofs.Stepping.{fits_comes, fits_few, comes_counted, counted_ahead, counted_agrees, step_adds}
+use Rattle.hrana_hub.specs.Step.{may_come}
+use Rattle.hrana_hub.proofs.Stepping.{fits_comes, fits_few, comes_counted, counted_ahead, counted_agrees, step_adds, frees_counted}
 use Rattle.hrana_hub.proofs.hub.Hub.step.Goals as goal
 
 pub count-requires : goal.count-requires
@@ -21,4 +21,7 @@ pub come-requires-clause-agrees : goal.come-requires-clause-agrees
 come-requires-clause-agrees g c = subst (HubAgrees _ _ _ _) (sym c.count.ensures) (counted_agrees _ _ _ _ c.args.self.now c.requires.agrees)
 
 pub returns-clause-adds : goal.returns-clause-adds
-returns-clause-adds g c = step_adds g.E.Engine.told g.E.Engine.SHARED _ _ c.args.self.now c.count.new.self c.come.new.self c.args.event c.come.result c.count.ensures c.come.ensures.adds
+returns-clause-adds g c = step_adds _ _ c.args.self.now c.count.new.self c.come.new.self c.args.event c.come.result c.count.ensures c.come.ensures.adds
+
+pub returns-clause-freed : goal.returns-clause-freed
+returns-clause-freed g c = frees_counted c.args.event c.args.self.now c.count.new.self c.come.new.self c.count.ensures c.come.ensures.freed
