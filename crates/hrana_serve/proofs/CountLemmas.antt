@@ -101,53 +101,53 @@ GoesOn Stop = ⊥
 GoesOn other = Unit {0}
 
 module _ (token : Option (List ℕ)) (shared : Bool) (s new : State) (added : List Entry) (out : Outs) where
-  as : (t : State) → SameCount s t → new ≡ t → SameCount s new
-  as t h e = subst (SameCount s) (sym e) h
+  left_as : (t : State) → SameCount s t → new ≡ t → SameCount s new
+  left_as t h e = subst (SameCount s) (sym e) h
 
   same : SameCount s s
   same = record { events = refl; stopped = refl }
 
   heard : (o : Option Conn) (Does : Conn → Type 0) → ((k : Conn) → Does k → SameCount s new) → Heard s o Does added out new → SameCount s new
-  heard None Does f h = as s same h.left
-  heard (Some k) Does f h = either k.closing (λ (g : Goes (quiet s) added out new). as s same g.left) (f k) h
+  heard None Does f h = left_as s same h.left
+  heard (Some k) Does f h = either k.closing (λ (g : Goes (quiet s) added out new). left_as s same g.left) (f k) h
 
   texted : (c : ℕ) (k : Conn) (text : List ℕ) → OpenText token s c k text added out new → SameCount s new
   texted c k text h = either (nat_lt MAX_BODY_BYTES (length text))
-      (λ (g : Goes (closing c k None 1009 s) added out new). as _ (record { events = refl; stopped = refl }) g.left)
-      (λ (r : ReadText token s c k text added out new). as _ (answered token c k r.answer s) r.goes.left) h
+      (λ (g : Goes (closing c k None 1009 s) added out new). left_as _ (record { events = refl; stopped = refl }) g.left)
+      (λ (r : ReadText token s c k text added out new). left_as _ (answered token c k r.answer s) r.goes.left) h
 
   polled : (n : ℕ) (o : Option Stream) → PolledAt shared s n o added out new → SameCount s new
-  polled n None h = as s same h.left
+  polled n None h = left_as s same h.left
   polled n (Some x) h = either (is_waiting x.task.asks)
-      (heard (at x.conn s.conns) _ (λ k p. as _ (record { events = refl; stopped = refl }) p.left))
-      (λ (g : Goes (quiet s) added out new). as s same g.left) h
+      (heard (at x.conn s.conns) _ (λ k p. left_as _ (record { events = refl; stopped = refl }) p.left))
+      (λ (g : Goes (quiet s) added out new). left_as s same g.left) h
 
   lost : (c : ℕ) (o : Option Conn) → LostAt s c o added out new → SameCount s new
-  lost c None h = as s same h.left
-  lost c (Some k) h = as _ (record { events = refl; stopped = refl }) h.2
+  lost c None h = left_as s same h.left
+  lost c (Some k) h = left_as _ (record { events = refl; stopped = refl }) h.2
 
   happened : (event : Event) → GoesOn event → Happens token shared s event added out new → SameCount s new
-  happened (Opened c) on h = as _ (record { events = refl; stopped = refl }) h.left
+  happened (Opened c) on h = left_as _ (record { events = refl; stopped = refl }) h.left
   happened (Text c text) on h = heard (at c s.conns) _ (λ k. texted c k text) h
-  happened (Binary c) on h = heard (at c s.conns) _ (λ k g. as _ (record { events = refl; stopped = refl }) g.left) h
+  happened (Binary c) on h = heard (at c s.conns) _ (λ k g. left_as _ (record { events = refl; stopped = refl }) g.left) h
   happened (Poll stream) on h = polled stream.0 (at stream.0 s.streams) h
   happened (Lost c) on h = lost c (at c s.conns) h
   happened Stop on h = absurd on
 
   text_fell : (c : ℕ) (o : Option Conn) (text : List ℕ) → TextFell s c o text added out new → SameCount s new
   text_fell c None text h = absurd h
-  text_fell c (Some k) text h = as _ (record { events = refl; stopped = refl }) h.4
+  text_fell c (Some k) text h = left_as _ (record { events = refl; stopped = refl }) h.4
 
   poll_fell_on : (n : ℕ) (x : Stream) (o : Option Conn) → PollFellOn shared s n x o added out new → SameCount s new
   poll_fell_on n x None h = absurd h
-  poll_fell_on n x (Some k) h = as _ (record { events = refl; stopped = refl }) h.1.left
+  poll_fell_on n x (Some k) h = left_as _ (record { events = refl; stopped = refl }) h.1.left
 
   poll_fell : (n : ℕ) (o : Option Stream) → PollFellAt shared s n o added out new → SameCount s new
   poll_fell n None h = absurd h
   poll_fell n (Some x) h = poll_fell_on n x (at x.conn s.conns) h.1
 
   fell : (event : Event) → Falls shared s event added out new → SameCount s new
-  fell (Opened c) h = as _ (record { events = refl; stopped = refl }) h.2
+  fell (Opened c) h = left_as _ (record { events = refl; stopped = refl }) h.2
   fell (Text c text) h = text_fell c (at c s.conns) text h
   fell (Poll stream) h = poll_fell stream.0 (at stream.0 s.streams) h
   fell other h = absurd h
@@ -199,17 +199,12 @@ pub lines_count : (token : Option (List ℕ)) (shared : Bool) (L : List (List �
 lines_count token shared L V J outs s reads run = counts token shared V J outs s (lines_go_on L V reads) run
 
 -- `Stop` gives nothing
-stop_gives : (b : Bool) (s new : State) (added : List Entry) (out : Outs) {B C : Type 0} → MatchBool b ⊥ (B × (out ≡ nothing) × C) → out ≡ nothing
-stop_gives true s new added out h = absurd h
-stop_gives false s new added out h = h.1
+stop_gives : (b : Bool) (s new : State) (added : List Entry) (out : Outs) (B C : Type 0) → MatchBool b ⊥ (B × (out ≡ nothing) × C) → out ≡ nothing
+stop_gives true s new added out B C h = absurd h
+stop_gives false s new added out B C h = h.1
 
-pub stop_is_silent : (token : Option (List ℕ)) (shared : Bool) (s new : State) (added : List Entry) (out : Outs) → Step token shared s Stop added out new → out ≡ nothing
-stop_is_silent token shared s new added out h = stop_gives (is_short out) s new added out h
+stop_is_silent : (token : Option (List ℕ)) (shared : Bool) (s new : State) (added : List Entry) (out : Outs) → Step token shared s Stop added out new → out ≡ nothing
+stop_is_silent token shared s new added out h = stop_gives (is_short out) s new added out _ _ h
 
--- and leaves no stream
-stop_leaves : (b : Bool) (s new t : State) {B C : Type 0} → t.streams ≡ [] → MatchBool b ⊥ (B × C × (new ≡ t)) → new.streams ≡ []
-stop_leaves true s new t e h = absurd h
-stop_leaves false s new t e h = ap (λ (x : State). x.streams) h.2 ∙ e
-
-pub stop_leaves_none : (token : Option (List ℕ)) (shared : Bool) (s new : State) (added : List Entry) (out : Outs) → Step token shared s Stop added out new → new.streams ≡ []
-stop_leaves_none token shared s new added out h = stop_leaves (is_short out) s new _ refl h
+pub silent_step : (token : Option (List ℕ)) (shared : Bool) (s new : State) (added : List Entry) (out : Outs) → Step token shared s Stop added out new → Step token shared s Stop added nothing new
+silent_step token shared s new added out h = subst (λ o. Step token shared s Stop added o new) (stop_is_silent token shared s new added out h) h

@@ -1,6 +1,9 @@
 pub mod CountLemmas
+pub mod EndLemmas
 pub mod LineLemmas
 pub mod NoteLemmas
+pub mod OutcomeLemmas
 pub mod PrintLemmas
 pub mod ReadLemmas
+pub mod ReplayLemmas
 pub mod ScriptLemmas

@@ -1,5 +1,6 @@
 -- What events add, one after another, and what of it the journal took.
 use Rattle.std.proofs.Common.{◌≡◌, ℕ, ◌+◌, Bool, List, [], ◌∷◌, ◌++◌, drop, Option, None, Some, IsTrue, refl, sym, ap, ◌∙◌, subst, arith, append_assoc, append-nil}
+use Rattle.std.specs.Prelude.{MatchOption}
 use Rattle.serial_order.specs.Serial.{Meaning}
 use Rattle.engine_core.specs.Causes.{RoseBy}
 use Rattle.engine_core.specs.Journal.{fault_count}
@@ -34,7 +35,7 @@ pub notes_as : (held holds : Option (List Entry)) (waited other waits : List Ent
 notes_as held holds waited other waits e n = record { taken = n.taken; all = sym e ∙ n.all; grew = n.grew }
 
 -- the first that waits was noted, and taken
-pub notes_more : (held mid holds : Option (List Entry)) (waited before after : List Entry) (first e : Entry) → before ≡ first ∷ drop 1 before → before ≡ e ∷ after → holds ≡ with_entry mid first → Notes held mid waited before → Notes held holds waited after
+notes_more : (held mid holds : Option (List Entry)) (waited before after : List Entry) (first e : Entry) → before ≡ first ∷ drop 1 before → before ≡ e ∷ after → holds ≡ with_entry mid first → Notes held mid waited before → Notes held holds waited after
 notes_more held mid holds waited before after first e is took noted n =
     let both : first ∷ drop 1 before ≡ e ∷ after = sym is ∙ took in
     let same : first ≡ e = cc in
@@ -43,6 +44,11 @@ notes_more held mid holds waited before after first e is took noted n =
       all = n.all ∙ ap (λ l. n.taken ++ l) took ∙ sym (append_assoc n.taken (e ∷ []) after);
       grew = noted ∙ ap (λ x. with_entry mid x) same ∙ ap (λ l. with_entry l e) n.grew ∙ with_more held n.taken e;
     }
+
+pub notes_taken : (held mid holds : Option (List Entry)) (waited before after : List Entry) (first : Entry) (result : Option Entry) → before ≡ first ∷ drop 1 before → MatchOption result (before ≡ []) (λ e. before ≡ e ∷ after)
+    → holds ≡ with_entry mid first → Notes held mid waited before → Notes held holds waited after
+notes_taken held mid holds waited before after first None is took noted n = let no : first ∷ drop 1 before ≡ [] = sym is ∙ took in absurd cc
+notes_taken held mid holds waited before after first (Some e) is took noted n = notes_more held mid holds waited before after first e is took noted n
 
 pub notes_then : (held mid holds : Option (List Entry)) (waited between added waits : List Entry) → Notes held mid waited between → Notes mid holds (between ++ added) waits → Notes held holds (waited ++ added) waits
 notes_then held mid holds waited between added waits p q = record {

@@ -167,10 +167,13 @@ LastsAs end (Err journal.NoMemory) last = last ≡ status.NoMemory
 
 -- The last status of a run whose lines ended with this one, by whether the journal took all before, and by what waits at last.
 pub data LastStatus (saved : Bool) (end last : Status) (before now : ℕ) (waits : List Entry) : Type 0 where
-  broken : saved ≡ false → last ≡ end → LastStatus saved end last before now waits
-  noted : last ≡ end → waits ≡ [] → LastStatus saved end last before now waits
-  fault : last ≡ broken_at_last end → Rose before now → LastStatus saved end last before now waits
-  short : last ≡ status.NoMemory → LastStatus saved end last before now waits
+  -- it failed before
+  unsaved : saved ≡ false → last ≡ end → LastStatus saved end last before now waits
+  -- it took the last entries too
+  all_noted : last ≡ end → waits ≡ [] → LastStatus saved end last before now waits
+  -- it broke at last
+  broke : last ≡ broken_at_last end → Rose before now → LastStatus saved end last before now waits
+  fell_short : last ≡ status.NoMemory → LastStatus saved end last before now waits
 
 -- a run of lines ends in one of these ways
 abbrev pub IsLinesStatus : Status → Type 0

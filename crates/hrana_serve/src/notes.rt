@@ -5,9 +5,12 @@ ghost use Rattle.hrana_hub.specs.Agrees.{HubAgrees, OnlyTaken};
 ghost use Rattle.hrana_hub.specs.Step.{fits};
 ghost use Rattle.hrana_serve.specs.Notes.{Notes, AddsNoted, RunsAs};
 
-use engine_core::{Engine, Journal, JournalFail};
+use engine_core::{Engine, Entry, Journal, JournalFail};
 use hrana_hub::{Event, Hub, taken_entries_leave_agreement};
 use http_wire::Outs;
+
+/// Lets go of an entry that was noted.
+fn forget(_noted: Option<Entry>) {}
 
 /// Notes the entries that no journal took yet, up to the first that the journal refuses.
 pub fn note_entries<J: Journal>(hub: &mut Hub, journal: &mut J) -> Result<(), JournalFail>
@@ -20,7 +23,7 @@ pub fn note_entries<J: Journal>(hub: &mut Hub, journal: &mut J) -> Result<(), Jo
 {
     while let Some(entry) = hub.first_entry() {
         journal.note(entry)?;
-        let _noted = hub.take_entry();
+        forget(hub.take_entry());
     }
     Ok(())
 }

@@ -65,7 +65,7 @@ fn at_once<E: Engine, J: Journal, O: Sink>(
 }
 
 fn new_hub(alloc: Global, token: Option<&str>) -> Result<Hub, NoMemory>
-    ensures { IfOk result (λ hub. IsNew (option_map (λ word. word.now) token) hub) }
+    ensures { IfOk result (λ hub. IsNew (option_map (λ word. word.now) token.entry) hub) }
 {
     match token {
         Some(token) => Hub::new(alloc, Some(Txt::new(alloc, token)?)),
@@ -85,7 +85,7 @@ fn run<E: Engine, J: Journal, O: Sink>(
     requires quiet { NoneLive (E.live engine.old) }
     requires short { length script.now ≤ MAX_INPUT_BYTES }
     ensures outcome { Outcome E.told E.SHARED E.meaning E.db E.live E.faults engine.old engine.new J.noted J.faults journal.old journal.new O.written O.faults sink.old sink.new
-        (option_map (λ word. word.now) token) (Some script.now) result.status result.events result.unsaved.items }
+        (option_map (λ word. word.now) token.entry) (Some script.now) result.status result.events result.unsaved.items }
     ensures ends { IsLinesStatus result.status }
 {
     a_new_hub_agrees::<E>();
@@ -123,7 +123,7 @@ fn replay<I: Source, O: Sink, E: Engine, J: Journal>(
 ) -> Ended
     requires quiet { NoneLive (E.live world.old.engine) }
     ensures outcome { Outcome E.told E.SHARED E.meaning E.db E.live E.faults world.old.engine world.new.engine J.noted J.faults world.old.journal world.new.journal O.written O.faults world.old.sink world.new.sink
-        (option_map (λ word. word.now) token) (I.left world.old.source) result.status result.events result.unsaved.items }
+        (option_map (λ word. word.now) token.entry) (I.left world.old.source) result.status result.events result.unsaved.items }
     ensures words { result.status ≡ Status.BadWords → ⊥ }
     ensures too_long { IfSome (I.left world.old.source) (λ _. (result.status ≡ Status.InputTooLong) ↔ (MAX_INPUT_BYTES < given_count (I.left world.old.source) (I.left world.new.source))) }
     ensures read_fault { result.status ≡ Status.ReadFault → Rose (I.faults world.old.source) (I.faults world.new.source) }
