@@ -1,7 +1,6 @@
 -- Each event is counted, and only `Stop` stops.
-use Rattle.std.proofs.Common.{◌≡◌, ℕ, ◌+◌, Bool, true, false, cond, List, [], ◌∷◌, ◌++◌, length, length-append, Option, None, Some, Result, Ok, Err, refl, sym, ap, ◌∙◌, subst, arith}
+use Rattle.std.proofs.Common.{◌≡◌, ℕ, Bool, true, false, cond, List, [], ◌∷◌, ◌++◌, length, length-append, Option, None, Some, Result, Ok, Err, refl, sym, ap, ◌∙◌, subst, arith}
 use Rattle.std.specs.Prelude.{MatchBool, nat_lt, nat_le, ℤ}
-use Rattle.hrana_stmt.specs.declared.codes.Code.{Code}
 use Rattle.hrana_value.specs.declared.failures.Decline.{Decline}
 use Rattle.stream_requests.specs.declared.asks.Ask.{Ask}
 use Rattle.stream_requests.specs.declared.asks.Ask.TheVariants as ask
@@ -19,7 +18,7 @@ use Rattle.engine_core.specs.declared.entries.Entry.{Entry}
 use Rattle.hrana_hub.specs.declared.events.Event.{Event}
 use Rattle.hrana_hub.specs.declared.events.Event.TheVariants.{Opened, Text, Binary, Lost, Poll, Stop}
 use Rattle.hrana_hub.specs.declared.limits.TheConstants.{MAX_STREAMS}
-use Rattle.hrana_hub.specs.Arrivals.{Went, quiet, closing, accepts, on_hello, opens_unless, opens, asks, asks_at, queues, unopened, is_full, stores_unless, stores, on_request, on_numbered, if_greeted, on_answer, nothing}
+use Rattle.hrana_hub.specs.Arrivals.{Went, quiet, closing, accepts, on_hello, opens_unless, opens, asks, asks_at, queues, unopened, is_full, stores_unless, stores, on_request, on_numbered, on_answer, nothing}
 use Rattle.hrana_hub.specs.Maps.{at, id_at}
 use Rattle.hrana_hub.specs.Run.{Run, start, more}
 use Rattle.hrana_hub.specs.State.{Conn, Stream, State}

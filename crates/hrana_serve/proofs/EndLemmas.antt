@@ -1,5 +1,5 @@
 -- What the end of the lines and `Stop` say of the whole run.
-use Rattle.std.proofs.Common.{◌≡◌, ℕ, ◌+◌, ◌≤◌, ◌<◌, ◌⊎◌, inl, inr, Bool, true, false, List, [], ◌∷◌, ◌++◌, Option, subst, sym, refl, ap, ◌∙◌, arith, append-nil, append_assoc}
+use Rattle.std.proofs.Common.{◌≡◌, ℕ, ◌+◌, ◌≤◌, ◌<◌, ◌⊎◌, inl, inr, Bool, true, false, List, [], ◌++◌, Option, subst, sym, refl, ap, ◌∙◌, arith, append-nil, append_assoc}
 use Rattle.std.proofs.lemmas.Bool.{lt-ltb}
 use Rattle.std.specs.Prelude.{nat_lt}
 use Rattle.std.proofs.KnownBytes.{Appends-nil}
@@ -17,7 +17,7 @@ use Rattle.hrana_hub.specs.Run.{start}
 use Rattle.hrana_hub.specs.State.{State, first_state}
 use Rattle.hrana_hub.specs.Step.{Step, fits, counted}
 use Rattle.hrana_serve.specs.Outcome.{IsEarly, LeavesBy}
-use Rattle.hrana_serve.specs.Replay.{join, Halted, StopsAs, WritesAs, PrintsFront, AnswersNoted, BreaksBy, LastStatus, unsaved, all_noted, broke, fell_short, broken_at_last, IsLinesStatus}
+use Rattle.hrana_serve.specs.Replay.{join, Halted, StopsAs, WritesAs, PrintsFront, BreaksBy, LastStatus, unsaved, all_noted, broke, fell_short, broken_at_last, IsLinesStatus}
 use Rattle.hrana_serve.specs.Story.{Replayed}
 use Rattle.hrana_serve.proofs.CountLemmas.{lines_count}
 use Rattle.hrana_serve.proofs.NoteLemmas.{IsLeft}

@@ -1,12 +1,12 @@
 -- What a run did, and what the top call's clauses say of it.
-use Rattle.std.proofs.Common.{◌≡◌, ℕ, ◌+◌, ◌≤◌, ◌<◌, ◌⊎◌, ◌↔◌, inl, inr, Bool, List, [], ◌∷◌, ◌++◌, Option, None, Some, IsTrue, map, subst, sym, refl, ap, ◌∙◌, arith, length}
+use Rattle.std.proofs.Common.{◌≡◌, ℕ, ◌≤◌, ◌<◌, ◌⊎◌, ◌↔◌, inl, inr, Bool, List, [], ◌++◌, Option, None, Some, IsTrue, map, subst, sym, refl, ap, ◌∙◌, arith, length}
 use Rattle.std.specs.Prelude.{IfSome}
 use Rattle.serial_order.specs.Serial.{Meaning}
 use Rattle.engine_core.specs.Bytes.{lines_of}
 use Rattle.engine_core.specs.Causes.{Rose, RoseBy}
 use Rattle.engine_core.specs.Journal.{entry_of, fault_count}
 use Rattle.engine_core.specs.Transactions.{Lives, NoneLive}
-use Rattle.engine_core.specs.Transfer.{given_count, left_count}
+use Rattle.engine_core.specs.Transfer.{given_count}
 use Rattle.engine_core.specs.declared.statement.BoundStmt.{BoundStmt}
 use Rattle.engine_core.specs.declared.entries.Answer.{Answer}
 use Rattle.engine_core.specs.declared.entries.Entry.{Entry}

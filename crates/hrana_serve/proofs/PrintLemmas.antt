@@ -1,5 +1,5 @@
 -- What is printed, piece by piece.
-use Rattle.std.proofs.Common.{◌≡◌, ℕ, List, [], ◌∷◌, ◌++◌, ◌∙◌, sym, ap, refl, subst, append_assoc, append-nil, flat_map, codes, Vec, Global, String, string_bytes}
+use Rattle.std.proofs.Common.{◌≡◌, ℕ, List, [], ◌∷◌, ◌++◌, ◌∙◌, sym, ap, append_assoc, append-nil, flat_map, Vec, Global, String, string_bytes}
 use Rattle.std.specs.String.{string_vec}
 use Rattle.std.specs.Fmt.{decimal}
 use Rattle.engine_core.specs.Bytes.{lines_of}

@@ -1,5 +1,5 @@
 -- The events of one line more.
-use Rattle.std.proofs.Common.{◌≡◌, ℕ, List, [], ◌∷◌, ◌++◌, length, arith, ap, ◌∙◌, sym, refl, subst}
+use Rattle.std.proofs.Common.{◌≡◌, ℕ, List, [], ◌∷◌, ◌++◌, length, arith, ap, refl}
 use Rattle.hrana_hub.specs.declared.events.Event.{Event}
 use Rattle.hrana_serve.specs.Script.{IsLineOf, ReadsAs}
 

@@ -1,5 +1,5 @@
 -- What the top call says where the journal tells its list.
-use Rattle.std.specs.Prelude.{◌≡◌, List, [], ◌++◌, Option, None, Some}
+use Rattle.std.specs.Prelude.{◌≡◌, List, ◌++◌, Option, None, Some}
 use Rattle.engine_core.specs.declared.entries.Entry.{Entry}
 
 -- the list grew by these entries, and P holds of them followed by those that the journal didn't take

@@ -1,5 +1,5 @@
 -- What events add, and what of it the journal noted.
-use Rattle.std.specs.Prelude.{◌≡◌, ℕ, Bool, true, List, [], ◌∷◌, ◌++◌, Option, Result, Ok, Err, IsTrue, option_map}
+use Rattle.std.specs.Prelude.{◌≡◌, ℕ, Bool, List, ◌++◌, Option, Result, Ok, Err, IsTrue, option_map}
 use Rattle.serial_order.specs.Serial.{Meaning}
 use Rattle.engine_core.specs.Causes.{RoseBy}
 use Rattle.engine_core.specs.Journal.{fault_count}

@@ -1,5 +1,5 @@
 -- The story of a run: the events of its lines, and then `Stop`.
-use Rattle.std.specs.Prelude.{◌≡◌, ◌+◌, ℕ, Bool, true, List, [], ◌∷◌, ◌++◌, Option, None, length}
+use Rattle.std.specs.Prelude.{◌≡◌, ℕ, Bool, true, List, ◌++◌, Option, length}
 use Rattle.engine_core.specs.Bytes.{IsPrefix}
 use Rattle.engine_core.specs.declared.entries.Entry.{Entry}
 use Rattle.engine_core.specs.declared.status.Status.{Status}

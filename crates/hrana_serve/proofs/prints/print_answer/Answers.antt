@@ -1,4 +1,4 @@
-use Rattle.std.proofs.Common.{◌≡◌, ◌++◌, [], flat_map, string_bytes}
+use Rattle.std.proofs.Common.{◌≡◌, ◌++◌, flat_map, string_bytes}
 use Rattle.engine_core.specs.Bytes.{lines_of}
 use Rattle.hrana_serve.specs.Lines.{lines_left}
 use Rattle.hrana_serve.specs.Printed.{print_line}

@@ -1,5 +1,4 @@
-use Rattle.std.proofs.Common.{◌≡◌, ◌∙◌, string_bytes, append_assoc}
-use Rattle.hrana_serve.specs.Printed.{print_out}
+use Rattle.std.proofs.Common.{◌∙◌}
 use Rattle.hrana_serve.proofs.PrintLemmas.{message_is, vec_bytes}
 use Rattle.hrana_serve.proofs.prints.print_out.Goals as goal
 

@@ -1,4 +1,4 @@
-use Rattle.std.proofs.Common.{◌∙◌, sym, arith}
+use Rattle.std.proofs.Common.{arith}
 use Rattle.std.proofs.lemmas.Result.{err_from_is_err_and}
 use Rattle.hrana_serve.proofs.ScriptLemmas.{space_after, no_space}
 use Rattle.hrana_serve.proofs.script.text_of.Goals as goal

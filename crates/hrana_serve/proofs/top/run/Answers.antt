@@ -1,4 +1,3 @@
-use Rattle.std.proofs.Common.{◌≡◌, ◌∙◌, sym, arith}
 use Rattle.hrana_serve.proofs.EndLemmas.{halted_fits, replayed_of, ends_last, leaves_last, done_last, saving_last, write_last}
 use Rattle.hrana_serve.proofs.NoteLemmas.{adds_then}
 use Rattle.hrana_serve.proofs.OutcomeLemmas.{run_outcome}
