@@ -16,10 +16,11 @@ use Rattle.engine_core.specs.declared.status.Status.TheVariants as status
 use Rattle.stream_task.specs.Leads.{IsExplained, StandsExplained}
 use Rattle.hrana_hub.specs.Agrees.{HubStands}
 use Rattle.hrana_hub.specs.State.{Seen}
+use Rattle.hrana_hub.specs.Stories.{RepliesInOrder}
 use Rattle.hrana_serve.specs.Clauses.{WithJournal}
 use Rattle.hrana_serve.specs.Notes.{AddsNoted, with_entries}
 use Rattle.hrana_serve.specs.Outcome.{Outcome, IsEarly, LeavesBy}
-use Rattle.hrana_serve.specs.Story.{HasStory, HasWritten, HasAnswered, IsFirstBad, Replayed}
+use Rattle.hrana_serve.specs.Story.{HasStory, HasWritten, HasAnswered, HasReplies, IsFirstBad, Replayed}
 use Rattle.hrana_serve.specs.Replay.{StopsAs}
 use Rattle.hrana_serve.specs.Words.{IsReplay, token_in, AsksReplay}
 use Rattle.hrana_serve.proofs.EndLemmas.{early_replayed}
@@ -105,6 +106,10 @@ module _ {X D J O : Type 0} {told shared : Bool} {m : Meaning D BoundStmt Answer
 
   pub answered_is_journaled : WithJournal (noted journal) (noted journal') unsaved (λ entries. IfSome left (λ script. HasAnswered token shared (lines_of script) count unsaved (written sink) (written sink') entries))
   answered_is_journaled = by_script (λ entries script. HasAnswered token shared (lines_of script) count unsaved (written sink) (written sink') entries) (λ script r. record { story = r.story; is_story = r.is_story; answers = r.answers })
+
+  pub replies_in_order : RepliesInOrder → WithJournal (noted journal) (noted journal') unsaved (λ entries. IfSome left (λ script. HasReplies token shared (lines_of script) count entries))
+  replies_in_order law = by_script (λ entries script. HasReplies token shared (lines_of script) count entries)
+      (λ script r. record { story = r.story; is_story = r.is_story; in_order = λ had versions n. law token shared r.story.events r.story.entries r.story.outs r.story.state r.is_story.run had versions n })
 
   -- the line that the run stopped at
   bad_line : (number : ℕ) (script : List ℕ) → end ≡ status.BadScript number → Replayed token shared (lines_of script) end count unsaved (written sink) (written sink') (o.taken ++ unsaved) → IsFirstBad token shared (lines_of script) number count (o.taken ++ unsaved)

@@ -9,6 +9,7 @@ use Rattle.hrana_hub.specs.declared.events.Event.TheVariants.{Stop}
 use Rattle.hrana_hub.specs.Arrivals.{nothing}
 use Rattle.hrana_hub.specs.Run.{Run}
 use Rattle.hrana_hub.specs.State.{State}
+use Rattle.hrana_hub.specs.Stories as streams
 use Rattle.hrana_hub.specs.Step.{Step, fits}
 use Rattle.hrana_serve.specs.Script.{ReadsAs}
 use Rattle.hrana_serve.specs.Replay.{join, StopsAs, StopsAt, WritesAs, AnswersNoted}
@@ -67,3 +68,10 @@ pub record Replayed (token : Option (List ℕ)) (shared : Bool) (all : List (Lis
   pub stops : StopsAs end story.lines all story.state
   pub writes : WritesAs end story.outs held holds
   pub answers : AnswersNoted story.entries story.outs story.ended unsaved held holds
+
+-- There is one in which the replies of each stream are those of its requests, in their order, whichever numbers `had` says that the
+-- units' versions are, where they are those of the run.
+pub record HasReplies (token : Option (List ℕ)) (shared : Bool) (all : List (List ℕ)) (count : ℕ) (J : List Entry) : Type 0 where
+  pub story : Story
+  pub is_story : IsStoryOf token shared all count J story
+  pub in_order : (had : ℕ → ℕ) → streams.AreVersions had is_story.run → (n : ℕ) → streams.InOrder shared had (streams.story n is_story.run) story.state n

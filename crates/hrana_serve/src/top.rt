@@ -6,12 +6,14 @@ ghost use Rattle.engine_core.specs.Journal.{entry_of, fault_count};
 ghost use Rattle.engine_core.specs.Transactions.{NoneLive};
 ghost use Rattle.engine_core.specs.Transfer.{given_count};
 ghost use Rattle.engine_core.specs.declared.limits.TheConstants.{MAX_INPUT_BYTES};
+ghost use Rattle.stream_task.specs.Laws.{BatchesAreMeant};
 ghost use Rattle.stream_task.specs.Leads.{IsExplained};
 ghost use Rattle.hrana_hub.specs.Agrees.{IsNew};
+ghost use Rattle.hrana_hub.specs.Laws.{DeadAddNothing};
 ghost use Rattle.hrana_serve.specs.Clauses.{WithJournal};
 ghost use Rattle.hrana_serve.specs.Outcome.{Outcome, IsEarly, LeavesBy};
 ghost use Rattle.hrana_serve.specs.Replay.{IsLinesStatus};
-ghost use Rattle.hrana_serve.specs.Story.{HasStory, HasWritten, HasAnswered, IsFirstBad};
+ghost use Rattle.hrana_serve.specs.Story.{HasStory, HasWritten, HasAnswered, HasReplies, IsFirstBad};
 ghost use Rattle.hrana_serve.specs.Words.{AsksReplay, texts_of, token_in};
 
 use crate::replay::{play_lines, stop};
@@ -19,10 +21,10 @@ use crate::words::replay_token;
 use engine_core::{
     Engine, Entry, Journal, MAX_INPUT_BYTES, ReadAllFail, Sink, Source, Status, read_all,
 };
-use hrana_hub::{Hub, a_new_hub_agrees};
+use hrana_hub::{Hub, a_new_hub_agrees, replies_follow_requests, the_dead_add_nothing};
 use hrana_value::{NoMemory, Txt};
 use std::alloc::Global;
-use stream_task::{journal_says_what_stands, streams_stand_at_first};
+use stream_task::{batches_are_meant, journal_says_what_stands, streams_stand_at_first};
 
 /// What the program runs over.
 #[derive(Drop)]
@@ -203,6 +205,13 @@ pub fn hrana<I: Source, O: Sink, E: Engine, J: Journal>(
     ensures unsaved_cause { LeavesBy (J.faults world.old.journal) (J.faults world.new.journal) result.status result.unsaved.items }
     ensures done { result.status ≡ Status.Done → result.unsaved.items ≡ [] }
 
+    // The replies of each stream are those of its requests, in their order. A batch's outcomes are those that it means. What is dead or
+    // gone adds no entry.
+    ensures replies_in_order { WithJournal (J.noted world.old.journal) (J.noted world.new.journal) result.unsaved.items (λ entries. IfSome (I.left world.old.source) (λ script.
+        HasReplies (token_in (texts_of words.now)) E.SHARED (lines_of script) result.events entries)) }
+    ensures batches_as_meant { BatchesAreMeant }
+    ensures dead_add_nothing { DeadAddNothing }
+
     // Each status has its cause. Only want of memory is free.
     ensures bad_words { (result.status ≡ Status.BadWords) ↔ ¬ (AsksReplay (texts_of words.now)) }
     ensures bad_script { (line : ℕ) → result.status ≡ Status.BadScript line → WithJournal (J.noted world.old.journal) (J.noted world.new.journal) result.unsaved.items (λ entries. IfSome (I.left world.old.source) (λ script.
@@ -217,5 +226,8 @@ pub fn hrana<I: Source, O: Sink, E: Engine, J: Journal>(
         length script ≤ MAX_INPUT_BYTES → ((line : ℕ) → IsFirstBad (token_in (texts_of words.now)) E.SHARED (lines_of script) line result.events entries → ⊥) → (result.status ≡ Status.Done) ⊎ (result.status ≡ Status.NoMemory))) }
     ensures engine_faults { WithJournal (J.noted world.old.journal) (J.noted world.new.journal) result.unsaved.items (λ entries. RoseBy (fault_count entries) (E.faults world.old.engine) (E.faults world.new.engine)) }
 {
+    replies_follow_requests();
+    batches_are_meant();
+    the_dead_add_nothing();
     answer(alloc, words, world)
 }

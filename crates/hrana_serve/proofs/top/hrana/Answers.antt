@@ -1,4 +1,4 @@
-use Rattle.hrana_serve.proofs.OutcomeLemmas.{journal_fits, serial_explains, output_exact, answered_is_journaled, bad_script, complete, engine_faults}
+use Rattle.hrana_serve.proofs.OutcomeLemmas.{journal_fits, replies_in_order, serial_explains, output_exact, answered_is_journaled, bad_script, complete, engine_faults}
 use Rattle.hrana_serve.proofs.top.hrana.Goals as goal
 
 pub returns-clause-journal_fits : goal.returns-clause-journal_fits
@@ -22,3 +22,6 @@ returns-clause-complete g c = λ asks source sink journal. (let a = c.answer.ens
 
 pub returns-clause-engine_faults : goal.returns-clause-engine_faults
 returns-clause-engine_faults g c = engine_faults c.answer.ensures.outcome
+
+pub returns-clause-replies_in_order : goal.returns-clause-replies_in_order
+returns-clause-replies_in_order g c = replies_in_order c.answer.ensures.outcome c.replies_follow_requests.ensures
