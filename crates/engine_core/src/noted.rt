@@ -1,5 +1,5 @@
 // The entries of a run that no journal took yet.
-ghost use Rattle.std.specs.Prelude.{◌≡◌, ◌+◌, ◌-◌, ◌^◌, ◌<◌, ◌≤◌, [], ◌∷◌, ◌++◌, IfOk, OnOk, MatchOption};
+ghost use Rattle.std.specs.Prelude.{◌≡◌, ◌+◌, ◌-◌, ◌^◌, ◌<◌, ◌≤◌, [], ◌∷◌, ◌++◌, IfOk, OnOk, MatchOption, drop};
 ghost use Rattle.engine_core.specs.Noted.{Noted, next_after, IsNumbered};
 
 use crate::Entry;
@@ -63,6 +63,13 @@ impl Entries {
             _ => {}
         }
         self.items.push_back_reserved(entry);
+    }
+
+    /// The first entry.
+    pub fn first(&self) -> Option<&Entry>
+        ensures { MatchOption result (self.now.list ≡ []) (λ entry. self.now.list ≡ entry.now ∷ drop 1 self.now.list) }
+    {
+        self.items.front()
     }
 
     /// Takes the first entry.

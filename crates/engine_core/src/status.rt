@@ -13,6 +13,7 @@ pub enum Status {
     BadScript { line: u64 },
     ReadFault,
     WriteFault,
+    JournalFault,
     NoMemory,
     InputTooLong,
 }
@@ -28,6 +29,7 @@ impl Status {
             Status::BadScript { line: _ } => 3,
             Status::ReadFault => 4,
             Status::WriteFault => 5,
+            Status::JournalFault => 7,
             Status::NoMemory => 11,
             Status::InputTooLong => 12,
         }
@@ -42,6 +44,7 @@ impl fmt::Display for Status {
             Status::BadScript { line } => write!(f, "bad line {line}"),
             Status::ReadFault => f.write_str("read failed"),
             Status::WriteFault => f.write_str("write failed"),
+            Status::JournalFault => f.write_str("journal failed"),
             Status::NoMemory => f.write_str("out of memory"),
             Status::InputTooLong => f.write_str("input too long"),
         }

@@ -1,7 +1,8 @@
-//! The program `hrana`: the top call over standard input and output and the keeper in memory.
+//! The program `hrana`: the top call over standard input and output, the keeper in memory, and a journal in a file.
 #![tactic(auto)]
 
-use engine_core::{ReaderSource, WriterSink};
+use engine_core::{FileSink, ReaderSource, WriterSink};
+use hrana_journal::LineJournal;
 use hrana_serve::{Status, World, hrana};
 use memory_keeper::MemoryKeeper;
 use std::process::ExitCode;
@@ -15,23 +16,36 @@ hrana: a Hrana 3 SQL server that plays scripts
 Usage: hrana COMMAND
 
 Commands:
-  replay     Read a script from standard input, run the event of each line, and
-             print each message that the server sends.
-             Example: hrana replay < examples/hello.script
+  replay [TOKEN]  Read a script from standard input, run the event of each line,
+                  and print what the server sends. With a TOKEN of 1 to 4096
+                  bytes, only a hello whose jwt it is gets accepted.
+                  Example: hrana replay < examples/hello.script
 
 Options, alone:
-  --help     Print this text
-  --version  Print the version
+  --help          Print this text
+  --version       Print the version
 
 A script has one event a line. Empty lines are passed over.
-  + 1        connection 1 opens
-  > 1 TEXT   the client sends TEXT, one JSON message, on connection 1
-  ! 1        stream 1 runs the oldest statement that waits on it
-A message that the server sends on connection 1 is printed as '< 1 TEXT'.
+  + C       connection C, a number of 1 or more, opens
+  > C TEXT  the client of C sends TEXT, one JSON message
+  # C       the client of C sends a binary message
+  ! N       stream N runs the oldest statement that waits on it; streams are
+            numbered from 1 in the order in which they were opened
+  - C       connection C is lost
+A message that the server sends on C is printed as '< C TEXT', and a close of C
+with a code as 'x C CODE'.
+
+What statements did is noted in the file hrana.journal of the current folder,
+one JSON object a line. The first entry makes the file, in the place of an older
+one.
 
 Exit status: 0 done, 2 bad words, 3 bad line, 4 read failed, 5 write failed,
-11 out of memory, 12 input too long. If it is not 0, standard error says why.
+7 journal failed, 11 out of memory, 12 input too long. If it is not 0, standard
+error says why.
 ";
+
+/// The journal's file, in the current folder.
+const JOURNAL: &str = "hrana.journal";
 
 /// The words after the program's name.
 fn read_words(rt: &HostRuntime) -> Result<Vec<String>, Status> {
@@ -58,7 +72,7 @@ fn print_text(rt: &HostRuntime, text: &str) -> Status {
     }
 }
 
-/// Runs the words over standard input and output.
+/// Runs the words over standard input and output and the journal's file.
 fn run_words(rt: &HostRuntime, words: &[&str]) -> Status {
     let alloc = rt.alloc();
     let Ok(engine) = MemoryKeeper::new(alloc) else {
@@ -68,6 +82,7 @@ fn run_words(rt: &HostRuntime, words: &[&str]) -> Status {
         source: ReaderSource::new(rt.reader()),
         sink: WriterSink::new(io::writer(rt)),
         engine,
+        journal: LineJournal::new(alloc, FileSink::new(rt, JOURNAL)),
     };
     hrana(alloc, words, &mut world).status
 }

@@ -1,150 +1,167 @@
--- What the end of the lines says of the whole run.
-use Rattle.std.proofs.Common.{◌≡◌, ℕ, ◌≤◌, ◌⊎◌, inl, inr, List, [], ◌∷◌, ◌++◌, Option, None, subst, sym, refl, ap, ◌∙◌, arith, length, length-append, append-nil, append_assoc, map}
-use Rattle.std.specs.Prelude.{IfSome}
-use Rattle.std.proofs.KnownBytes.{Keeps-refl, Appends-nil}
-use Rattle.serial_order.specs.Serial.{Meaning, serial, last_database}
-use Rattle.engine_core.specs.Bytes.{lines_of}
-use Rattle.engine_core.specs.Journal.{entry_of}
-use Rattle.engine_core.specs.declared.entries.Answer.{Answer}
-use Rattle.engine_core.specs.declared.statement.BoundStmt.{BoundStmt}
+-- What the end of the lines and `Stop` say of the whole run.
+use Rattle.std.proofs.Common.{◌≡◌, ℕ, ◌+◌, ◌≤◌, ◌<◌, ◌⊎◌, inl, inr, Bool, true, false, List, [], ◌++◌, Option, subst, sym, refl, ap, ◌∙◌, arith, append-nil, append_assoc}
+use Rattle.std.proofs.lemmas.Bool.{lt-ltb}
+use Rattle.std.specs.Prelude.{nat_lt}
+use Rattle.std.proofs.KnownBytes.{Appends-nil}
+use Rattle.engine_core.specs.Causes.{Rose}
 use Rattle.engine_core.specs.declared.entries.Entry.{Entry}
 use Rattle.engine_core.specs.declared.limits.TheConstants.{MAX_INPUT_BYTES}
 use Rattle.engine_core.specs.declared.status.Status.{Status}
 use Rattle.engine_core.specs.declared.status.Status.TheVariants as status
-use Rattle.hrana_serve.specs.State.{State, first_state}
-use Rattle.hrana_serve.specs.Step.{Fits}
-use Rattle.hrana_serve.specs.Run.{Run, nothing, more, ReadsAs}
-use Rattle.hrana_serve.specs.Replay.{Halted, Replayed, IsRunOf, StopsAs, WritesAs, IsLinesStatus}
-use Rattle.hrana_serve.specs.Top.{JournalFits, OutputExact, AnswersInOrder, IsFirstBad}
-use Rattle.hrana_serve.specs.declared.replies.Out.{Out}
-use Rattle.hrana_serve.specs.declared.script.Event.{Event}
-use Rattle.hrana_serve.specs.declared.script.Event.TheVariants.{Stop}
-use Rattle.hrana_serve.proofs.OrderLemmas.{replies_follow, same_length}
-use Rattle.hrana_serve.proofs.ReadLemmas.{reads_one, reads_same, reads_split}
+use Rattle.http_wire.specs.declared.outs.Outs.{Outs}
+use Rattle.hrana_hub.specs.declared.events.Event.TheVariants.{Stop}
+use Rattle.hrana_hub.specs.declared.limits.TheConstants.{MAX_EVENTS}
+use Rattle.hrana_hub.specs.Arrivals.{nothing}
+use Rattle.hrana_hub.specs.Ended.{at_its_end}
+use Rattle.hrana_hub.specs.Run.{start}
+use Rattle.hrana_hub.specs.State.{State, first_state}
+use Rattle.hrana_hub.specs.Step.{Step, fits, counted}
+use Rattle.hrana_serve.specs.Outcome.{IsEarly, LeavesBy}
+use Rattle.hrana_serve.specs.Replay.{join, Halted, StopsAs, WritesAs, PrintsFront, BreaksBy, LastStatus, unsaved, all_noted, broke, fell_short, broken_at_last, IsLinesStatus}
+use Rattle.hrana_serve.specs.Story.{Replayed}
+use Rattle.hrana_serve.proofs.CountLemmas.{lines_count}
+use Rattle.hrana_serve.proofs.NoteLemmas.{IsLeft}
 use Rattle.hrana_serve.proofs.ReplayLemmas.{whole_front}
-use Rattle.hrana_serve.proofs.TopLemmas.{any_bytes, told_bytes}
-use Rattle.hrana_serve.proofs.RunLemmas.{snoc_one, same_outs, same_state, step_fits, run_split}
 
--- the run goes on by `Stop`
-stopped : (V : List Event) (J : List Entry) (outs : List (Option Out)) (s : State) → Run V J outs s → Run (V ++ Stop ∷ []) J (outs ++ None ∷ []) s
-stopped V J outs s run = subst (λ K. Run (V ++ Stop ∷ []) K (outs ++ None ∷ []) s) (append-nil J)
-    (more run Stop [] None s (record { none = refl; silent = refl; same = refl }))
+-- ---- `Stop` fits after the lines
 
-module _ (all : List (List ℕ)) (end : Status) (s : State) (count : ℕ) (held holds : Option (List ℕ)) (J : List Entry) (h : Halted all end s count held holds J) where
-  run_of : IsRunOf all h.lines count J h.events h.outs s
-  run_of = record { front = h.front; reads = h.reads; counted = h.counted; run = stopped h.events J h.outs s h.run }
+stop_fits : (s : State) → s.stopped ≡ false → s.events < MAX_EVENTS → fits s Stop ≡ true
+stop_fits s going few = let less : nat_lt s.events MAX_EVENTS ≡ true = lt-ltb s.events MAX_EVENTS few in rw (going, less) refl
 
-  -- the outs are those of every run over these lines with these entries
-  pub writes_of : (lines : List (List ℕ)) (events : List Event) (outs : List (Option Out)) (t : State) → IsRunOf all lines count J events outs t → WritesAs end outs held holds
-  writes_of lines events outs t r =
-      let same : h.events ≡ events = reads_one h.lines lines h.front.rest r.front.rest h.events events (sym h.front.whole ∙ r.front.whole) (sym h.counted ∙ r.counted) h.reads r.reads in
-      let both = same_outs (h.events ++ Stop ∷ []) (events ++ Stop ∷ []) J J (h.outs ++ None ∷ []) (outs ++ None ∷ []) s t (ap (λ l. l ++ Stop ∷ []) same) refl (stopped h.events J h.outs s h.run) r.run in
-      subst (λ o. WritesAs end o held holds) (snoc_one h.outs outs None None both).0 h.writes
+pub halted_fits : (token : Option (List ℕ)) (shared : Bool) (all : List (List ℕ)) (end : Status) (s : State) (count : ℕ) (waits : List Entry) (held holds : Option (List ℕ)) (J : List Entry)
+    → Halted token shared all end s count waits held holds J → count ≤ MAX_INPUT_BYTES + 1 → fits s Stop ≡ true
+halted_fits token shared all end s count waits held holds J h few =
+    let c = lines_count token shared h.lines h.events h.entries h.outs s h.reads h.run in
+    stop_fits s c.stopped (omega (arith, c.events, h.counted))
 
-pub journal_fits : (bytes : List ℕ) (end : Status) (count : ℕ) (held holds : Option (List ℕ)) (J : List Entry) → Replayed (lines_of bytes) end count held holds J → JournalFits bytes end count J
-journal_fits bytes end count held holds J r = let h = r.halted in
-    record { lines = h.lines; events = h.events; outs = h.outs; state = r.state; run = run_of (lines_of bytes) end r.state count held holds J h; stops = h.stops }
+-- ---- the last status
 
-pub output_exact : (bytes : List ℕ) (end : Status) (count : ℕ) (held holds : Option (List ℕ)) (J : List Entry) → Replayed (lines_of bytes) end count held holds J → OutputExact bytes end count J held holds
-output_exact bytes end count held holds J r lines events outs t run = writes_of (lines_of bytes) end r.state count held holds J r.halted lines events outs t run
+front_of : (end : Status) (outs : List Outs) (held holds : Option (List ℕ)) → WritesAs end outs held holds → PrintsFront held holds outs
+front_of status.Done outs held holds w = whole_front held holds outs w
+front_of (status.BadScript number) outs held holds w = whole_front held holds outs w
+front_of end outs held holds w = w
 
-pub in_order : (bytes : List ℕ) (count : ℕ) (J : List Entry) → AnswersInOrder bytes count J
-in_order bytes count J lines events outs s r = replies_follow (events ++ Stop ∷ []) J (outs ++ None ∷ []) s r.run
+broken_stops : (end : Status) (L all : List (List ℕ)) (s : State) → StopsAs end L all s → StopsAs (broken_at_last end) L all s
+broken_stops status.Done L all s h = tt
+broken_stops end L all s h = h
 
-pub first_bad : (bytes : List ℕ) (end : Status) (number count : ℕ) (held holds : Option (List ℕ)) (J : List Entry) → end ≡ status.BadScript number → Replayed (lines_of bytes) end count held holds J → IsFirstBad (lines_of bytes) number
-first_bad bytes end number count held holds J is r =
-    let h = subst (λ x. Halted (lines_of bytes) x r.state count held holds J) is r.halted in
-    record { lines = h.lines; events = h.events; journal = J; outs = h.outs; state = r.state; reads = h.reads; run = h.run; stops = h.stops }
+broken_writes : (end : Status) (outs : List Outs) (held holds : Option (List ℕ)) → WritesAs end outs held holds → WritesAs (broken_at_last end) outs held holds
+broken_writes status.Done outs held holds w = whole_front held holds outs w
+broken_writes end outs held holds w = w
 
-none_bad : (all : List (List ℕ)) (s : State) (count number : ℕ) (held holds : Option (List ℕ)) (J : List Entry) → Halted all status.Done s count held holds J → IsFirstBad all number → ⊥
-none_bad all s count number held holds J h b =
-    let regrouped : all ≡ b.lines ++ b.stops.line ∷ b.stops.is_next.rest = b.stops.is_next.whole ∙ append_assoc b.lines (b.stops.line ∷ []) b.stops.is_next.rest in
-    let reads = subst (λ l. ReadsAs l h.events) (h.stops ∙ regrouped) h.reads in
-    let through = reads_split b.lines b.stops.is_next.rest b.stops.line h.events b.stops.bad.filled reads in
-    let ran = run_split h.events through.front through.back through.event J h.outs s through.whole h.run in
-    let same = same_state through.front b.events ran.journal b.journal ran.outs b.outs ran.state b.state (reads_same b.lines through.front b.events through.reads b.reads) ran.run b.run in
-    b.stops.bad.unfit through.event through.is_line (subst (λ (t : State). Fits t through.event) same (step_fits ran.state through.event ran.added ran.out ran.new ran.step))
+broken_lines : (end : Status) → IsLinesStatus end → IsLinesStatus (broken_at_last end)
+broken_lines status.Done h = tt
+broken_lines end h = h
 
-pub no_bad : (bytes : List ℕ) (end : Status) (count : ℕ) (held holds : Option (List ℕ)) (J : List Entry) → end ≡ status.Done → Replayed (lines_of bytes) end count held holds J → (number : ℕ) → IsFirstBad (lines_of bytes) number → ⊥
-no_bad bytes end count held holds J is r number b =
-    none_bad (lines_of bytes) r.state count number held holds J (subst (λ x. Halted (lines_of bytes) x r.state count held holds J) is r.halted) b
+broken_not_done : (end : Status) → broken_at_last end ≡ status.Done → ⊥
+broken_not_done status.Done e = cc
+broken_not_done end e = cc
+
+broken_write : (end : Status) → broken_at_last end ≡ status.WriteFault → end ≡ status.WriteFault
+broken_write status.Done e = absurd cc
+broken_write end e = e
+
+breaks_leave : (a b : ℕ) (end : Status) → BreaksBy a b end → Rose a b ⊎ (end ≡ status.NoMemory)
+breaks_leave a b status.NoMemory h = inr refl
+breaks_leave a b status.JournalFault h = inl h
+breaks_leave a b end h = absurd h
+
+module _ (saved : Bool) (end last : Status) (first before now : ℕ) (waits : List Entry) (onward : before ≤ now) (since : first ≤ before) where
+  stops_last : (L all : List (List ℕ)) (s : State) → LastStatus saved end last before now waits → StopsAs end L all s → StopsAs last L all s
+  stops_last L all s (unsaved not is) h = subst (λ x. StopsAs x L all s) (sym is) h
+  stops_last L all s (all_noted is none) h = subst (λ x. StopsAs x L all s) (sym is) h
+  stops_last L all s (broke is rose) h = subst (λ x. StopsAs x L all s) (sym is) (broken_stops end L all s h)
+  stops_last L all s (fell_short is) h = subst (λ x. StopsAs x L all s) (sym is) tt
+
+  writes_last : (outs : List Outs) (held holds : Option (List ℕ)) → LastStatus saved end last before now waits → WritesAs end outs held holds → WritesAs last outs held holds
+  writes_last outs held holds (unsaved not is) w = subst (λ x. WritesAs x outs held holds) (sym is) w
+  writes_last outs held holds (all_noted is none) w = subst (λ x. WritesAs x outs held holds) (sym is) w
+  writes_last outs held holds (broke is rose) w = subst (λ x. WritesAs x outs held holds) (sym is) (broken_writes end outs held holds w)
+  writes_last outs held holds (fell_short is) w = subst (λ x. WritesAs x outs held holds) (sym is) (front_of end outs held holds w)
+
+  pub ends_last : LastStatus saved end last before now waits → IsLinesStatus end → IsLinesStatus last
+  ends_last (unsaved not is) h = subst IsLinesStatus (sym is) h
+  ends_last (all_noted is none) h = subst IsLinesStatus (sym is) h
+  ends_last (broke is rose) h = subst IsLinesStatus (sym is) (broken_lines end h)
+  ends_last (fell_short is) h = subst IsLinesStatus (sym is) tt
+
+  pub leaves_last : LastStatus saved end last before now waits → (saved ≡ false → BreaksBy first before end) → LeavesBy first now last waits
+  leaves_last (unsaved not is) breaks filled = elim (breaks_leave first before end (breaks not)) [ inl rose ↦ inl (omega arith) | inr short ↦ inr (is ∙ short) ]
+  leaves_last (all_noted is none) breaks filled = absurd (filled none)
+  leaves_last (broke is rose) breaks filled = inl (omega arith)
+  leaves_last (fell_short is) breaks filled = inr is
+
+  pub done_last : LastStatus saved end last before now waits → (saved ≡ false → BreaksBy first before end) → last ≡ status.Done → waits ≡ []
+  done_last (unsaved not is) breaks done = absurd (subst (BreaksBy first before) (sym is ∙ done) (breaks not))
+  done_last (all_noted is none) breaks done = none
+  done_last (broke is rose) breaks done = absurd (broken_not_done end (sym is ∙ done))
+  done_last (fell_short is) breaks done = let no : status.NoMemory ≡ status.Done = sym is ∙ done in absurd cc
+
+  pub saving_last : LastStatus saved end last before now waits → (end ≡ status.JournalFault → Rose first before) → last ≡ status.JournalFault → Rose first now
+  saving_last (unsaved not is) fault e = let h = fault (sym is ∙ e) in omega arith
+  saving_last (all_noted is none) fault e = let h = fault (sym is ∙ e) in omega arith
+  saving_last (broke is rose) fault e = omega arith
+  saving_last (fell_short is) fault e = let no : status.NoMemory ≡ status.JournalFault = sym is ∙ e in absurd cc
+
+  pub write_last : (P : Type 0) → LastStatus saved end last before now waits → (end ≡ status.WriteFault → P) → last ≡ status.WriteFault → P
+  write_last P (unsaved not is) fault e = fault (sym is ∙ e)
+  write_last P (all_noted is none) fault e = fault (sym is ∙ e)
+  write_last P (broke is rose) fault e = fault (broken_write end (sym is ∙ e))
+  write_last P (fell_short is) fault e = let no : status.NoMemory ≡ status.WriteFault = sym is ∙ e in absurd cc
+
+  -- ---- the whole run
+
+  pub replayed_of : (token other : Option (List ℕ)) (shared : Bool) (all : List (List ℕ)) (s new : State) (count : ℕ) (left : List Entry) (held holds : Option (List ℕ)) (J ended : List Entry) → other ≡ token
+      → LastStatus saved end last before now waits → Halted token shared all end s count left held holds J → fits s Stop ≡ true → Step other shared s Stop ended nothing new → IsLeft left ended waits
+      → Replayed token shared all last count waits held holds (J ++ ended)
+  replayed_of token other shared all s new count left held holds J ended same is h fitted step l = record {
+    story = record { lines = h.lines; events = h.events; entries = h.entries; outs = h.outs; state = s; ended = ended; last = new };
+    is_story = record {
+      front = h.front;
+      reads = h.reads;
+      counted = h.counted;
+      run = h.run;
+      fitted = fitted;
+      stop = subst (λ t. Step t shared s Stop ended nothing new) same step;
+      joined = ap (λ x. x ++ ended) h.joined;
+    };
+    stops = stops_last h.lines all s is h.stops;
+    writes = writes_last h.outs held holds is h.writes;
+    answers = record {
+      answered = h.answers.answered;
+      others = h.answers.others;
+      told = h.answers.told;
+      untold = h.answers.untold;
+      all = h.answers.all;
+      given = h.answers.given;
+      paired = h.answers.paired;
+      writes = h.answers.writes;
+      noted = h.answers.noted ++ l.taken;
+      wait = ap (λ x. x ++ ended) (sym (append-nil (join h.answers.others)) ∙ h.answers.wait) ∙ append_assoc h.answers.noted left ended ∙ ap (λ x. h.answers.noted ++ x) l.all ∙ sym (append_assoc h.answers.noted l.taken waits);
+    };
+  }
 
 -- ---- a run that ends before its first line
 
-nil : {A : Type 0} (xs : List A) → length xs ≡ 0 → xs ≡ []
-nil [] e = refl
-nil (x ∷ xs) e = absurd (omega arith)
+early_stops : (end : Status) (all : List (List ℕ)) → IsEarly end → StopsAs end [] all first_state
+early_stops status.BadWords all h = refl
+early_stops status.ReadFault all h = refl
+early_stops status.InputTooLong all h = refl
+early_stops status.NoMemory all h = tt
+early_stops end all h = absurd h
 
--- no event gives nothing
-silent : (all lines : List (List ℕ)) (J : List Entry) (events : List Event) (outs : List (Option Out)) (s : State) → IsRunOf all lines 0 J events outs s → outs ≡ []
-silent all lines J events outs s r =
-    let l = same_length (events ++ Stop ∷ []) J (outs ++ None ∷ []) s r.run in
-    nil outs (omega (arith, l, r.counted, length-append events (Stop ∷ []), length-append outs (None ∷ [])))
+early_writes : (end : Status) (held : Option (List ℕ)) → IsEarly end → WritesAs end [] held held
+early_writes status.BadWords held h = whole_front held held [] (Appends-nil held)
+early_writes status.ReadFault held h = whole_front held held [] (Appends-nil held)
+early_writes status.InputTooLong held h = whole_front held held [] (Appends-nil held)
+early_writes status.NoMemory held h = whole_front held held [] (Appends-nil held)
+early_writes end held h = absurd h
 
-module _ (bytes : List ℕ) (end : Status) (held : Option (List ℕ)) where
-  fits_at_once : StopsAs end [] (lines_of bytes) first_state → JournalFits bytes end 0 []
-  fits_at_once stops = record {
-    lines = [];
-    events = [];
-    outs = [];
-    state = first_state;
-    run = record { front = record { rest = lines_of bytes; whole = refl }; reads = refl; counted = refl; run = stopped [] [] [] first_state nothing };
-    stops = stops;
-  }
-
-  exact_at_once : WritesAs end [] held held → OutputExact bytes end 0 [] held held
-  exact_at_once w lines events outs s r = subst (λ o. WritesAs end o held held) (sym (silent (lines_of bytes) lines [] events outs s r)) w
-
--- what a status that comes before the first line says
-pub record IsAtOnce (end : Status) : Type 0 where
-  pub stops : (all : List (List ℕ)) → StopsAs end [] all first_state
-  pub writes : (held : Option (List ℕ)) → WritesAs end [] held held
-
-pub bad_words_at_once : IsAtOnce status.BadWords
-bad_words_at_once = record { stops = λ all. refl; writes = Keeps-refl }
-
-pub read_fault_at_once : IsAtOnce status.ReadFault
-read_fault_at_once = record { stops = λ all. refl; writes = Keeps-refl }
-
-pub too_long_at_once : IsAtOnce status.InputTooLong
-too_long_at_once = record { stops = λ all. refl; writes = Keeps-refl }
-
-pub no_memory_at_once : IsAtOnce status.NoMemory
-no_memory_at_once = record { stops = λ all. tt; writes = λ held. whole_front held held [] (Appends-nil held) }
-
-module _ (left : Option (List ℕ)) (end st : Status) (items : List Entry) (count : ℕ) (is : end ≡ st) (empty : items ≡ []) (zero : count ≡ 0) (at : IsAtOnce st) where
-  pub once_fits : IfSome left (λ script. JournalFits script end count items)
-  once_fits = rw (is, empty, zero) (any_bytes left _ (λ bytes. fits_at_once bytes st None (at.stops (lines_of bytes))))
-
-  pub once_exact : (held : Option (List ℕ)) → IfSome left (λ script. OutputExact script end count items held held)
-  once_exact held = rw (is, empty, zero) (any_bytes left _ (λ bytes. exact_at_once bytes st held (at.writes held)))
-
-pub always_in_order : (left : Option (List ℕ)) (count : ℕ) (J : List Entry) → IfSome left (λ script. AnswersInOrder script count J)
-always_in_order left count J = any_bytes left _ (λ bytes. in_order bytes count J)
-
--- the last database of no entries is the first
-pub once_last : {D : Type 0} (m : Meaning D BoundStmt Answer) (db : D) (items : List Entry) → items ≡ [] → db ≡ last_database m db (serial []) → db ≡ last_database m db (serial (map entry_of items))
-once_last m db items empty p = subst (λ l. db ≡ last_database m db (serial (map entry_of l))) (sym empty) p
-
--- ---- valid input is done
-
-abbrev IsDone : Status → Type 0
-IsDone end = (end ≡ status.Done) ⊎ (end ≡ status.NoMemory)
-
-done_or_short : (end : Status) → IsLinesStatus end → ((number : ℕ) → end ≡ status.BadScript number → ⊥) → (end ≡ status.WriteFault → ⊥) → IsDone end
-done_or_short status.Done lines bad fault = inl refl
-done_or_short (status.BadScript number) lines bad fault = absurd (bad number refl)
-done_or_short status.WriteFault lines bad fault = absurd (fault refl)
-done_or_short status.NoMemory lines bad fault = inr refl
-done_or_short status.BadWords lines bad fault = absurd lines
-done_or_short status.ReadFault lines bad fault = absurd lines
-done_or_short status.InputTooLong lines bad fault = absurd lines
-
--- what the clause says of the script
-abbrev IsComplete : Status → List ℕ → Type 0
-IsComplete end script = length script ≤ MAX_INPUT_BYTES → ((line : ℕ) → IsFirstBad (lines_of script) line → ⊥) → IsDone end
-
-pub complete_lines : (left : Option (List ℕ)) (bytes : List ℕ) (end : Status) (count : ℕ) (held holds : Option (List ℕ)) (J : List Entry) → IfSome left (λ all. all ≡ bytes) → Replayed (lines_of bytes) end count held holds J
-    → IsLinesStatus end → (end ≡ status.WriteFault → ⊥) → IfSome left (λ script. length script ≤ MAX_INPUT_BYTES → ((line : ℕ) → IsFirstBad (lines_of script) line → ⊥) → (end ≡ status.Done) ⊎ (end ≡ status.NoMemory))
-complete_lines left bytes end count held holds J told r ends fault =
-    told_bytes left bytes (IsComplete end) told (λ small none. done_or_short end ends (λ number is. none number (first_bad bytes end number count held holds J is r)) fault)
+pub early_replayed : (token : Option (List ℕ)) (shared : Bool) (all : List (List ℕ)) (end : Status) (held : Option (List ℕ)) → IsEarly end → Replayed token shared all end 0 [] held held []
+early_replayed token shared all end held early = record {
+  story = record { lines = []; events = []; entries = []; outs = []; state = first_state; ended = []; last = at_its_end (counted first_state) };
+  is_story = record { front = record { rest = all; whole = refl }; reads = refl; counted = refl; run = start; fitted = refl; stop = (refl, refl, refl); joined = refl };
+  stops = early_stops end all early;
+  writes = early_writes end held early;
+  answers = record { answered = []; others = []; told = []; untold = []; all = refl; given = refl; paired = refl; writes = whole_front held held [] (Appends-nil held); noted = []; wait = refl };
+}

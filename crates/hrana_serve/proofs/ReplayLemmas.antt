@@ -1,92 +1,36 @@
--- Playing lines, and how a run of them ends.
-use Rattle.std.proofs.Common.{◌≡◌, ℕ, ◌+◌, ◌<◌, Bool, List, [], ◌∷◌, ◌++◌, Option, subst, sym, refl, ap, ◌∙◌, arith, length, length-append, append-nil, append_assoc}
+-- Playing lines, and how they end.
+use Rattle.std.proofs.Common.{◌≡◌, ℕ, ◌+◌, Bool, true, List, [], ◌∷◌, ◌++◌, Option, subst, sym, refl, ap, ◌∙◌, arith, length, length-append, append-nil, append_assoc}
 use Rattle.std.proofs.lemmas.Grind.{flat_map-append}
 use Rattle.std.specs.Io.KnownBytes.{Keeps, Appends}
-use Rattle.std.proofs.KnownBytes.{Keeps-refl, Appends-nil, Appends-trans, Appends-kept}
-use Rattle.serial_order.specs.Serial.{Meaning}
+use Rattle.std.proofs.KnownBytes.{Appends-nil, Appends-trans, Appends-kept}
 use Rattle.engine_core.specs.Bytes.{IsPrefix, AppendsFront}
-use Rattle.engine_core.specs.declared.entries.Answer.{Answer}
-use Rattle.engine_core.specs.declared.statement.BoundStmt.{BoundStmt}
 use Rattle.engine_core.specs.declared.entries.Entry.{Entry}
+use Rattle.engine_core.specs.declared.journal.JournalFail.TheVariants as journal
+use Rattle.engine_core.specs.declared.status.Status.{Status}
 use Rattle.engine_core.specs.declared.status.Status.TheVariants as status
-use Rattle.hrana_serve.specs.State.{State, first_state}
-use Rattle.hrana_serve.specs.Written.{print, print_out}
-use Rattle.hrana_serve.specs.Run.{Run, nothing, more, IsBadLine}
-use Rattle.hrana_serve.specs.Replay.{PlaysAs, LineRun, IsUntouched, Playing, Halted, PrintsFront}
-use Rattle.hrana_serve.specs.Script.{IsLineOf}
-use Rattle.hrana_serve.specs.Stepped.{Adds, StepsAs}
-use Rattle.hrana_serve.specs.declared.hub.Stepped.TheVariants.{Refused}
-use Rattle.hrana_serve.specs.declared.replay.LineEnd.TheVariants.{Bad}
-use Rattle.hrana_serve.specs.declared.script.Event.{Event}
-use Rattle.hrana_serve.specs.declared.replies.Out.{Out}
-use Rattle.hrana_serve.proofs.LineLemmas.{is_filled}
+use Rattle.http_wire.specs.declared.outs.Outs.{Outs}
+use Rattle.hrana_hub.specs.declared.events.Event.{Event}
+use Rattle.hrana_hub.specs.Run.{Run, start, more}
+use Rattle.hrana_hub.specs.State.{State, first_state}
+use Rattle.hrana_serve.specs.Printed.{print, print_outs}
+use Rattle.hrana_serve.specs.Replay.{join, PlaysAs, LineRun, IsUntouched, Playing, Halted, PrintsFront, AnswersNoted, StopsAs, WritesAs, is_saved, status_at, count_at}
+use Rattle.hrana_serve.specs.Script.{IsBadLine}
+use Rattle.hrana_serve.specs.declared.replay.LineEnd.{LineEnd}
+use Rattle.hrana_serve.specs.declared.replay.LineEnd.TheVariants.{Played, Bad, Short, Unsaved, Unwritten}
+use Rattle.hrana_serve.specs.declared.replay.WriteFail.TheVariants as write
+use Rattle.hrana_serve.proofs.NoteLemmas.{IsLeft}
 use Rattle.hrana_serve.proofs.ReadLemmas.{reads_blank, reads_more}
-use Rattle.hrana_serve.proofs.ScriptLemmas.{bad_event}
 
--- ---- one line more
+print_more : (outs : List Outs) (out : Outs) → print (outs ++ out ∷ []) ≡ print outs ++ print_outs out
+print_more outs out = flat_map-append print_outs outs (out ∷ []) ∙ ap (λ l. print outs ++ l) (append-nil (print_outs out))
 
-print_more : (outs : List (Option Out)) (out : Option Out) → print (outs ++ out ∷ []) ≡ print outs ++ print_out out
-print_more outs out = flat_map-append print_out outs (out ∷ []) ∙ ap (λ l. print outs ++ l) (append-nil (print_out out))
+join_more : (entries : List (List Entry)) (added : List Entry) → join (entries ++ added ∷ []) ≡ join entries ++ added
+join_more entries added = flat_map-append (λ (l : List Entry). l) entries (added ∷ []) ∙ ap (λ l. join entries ++ l) (append-nil added)
+
+-- ---- how much was written
 
 module _ (held : Option (List ℕ)) where
-  pub playing_none : Playing [] first_state held held 0 []
-  playing_none = record { events = []; outs = []; reads = refl; run = nothing; counted = refl; printed = Appends-nil held }
-
-  pub playing_blank : (L : List (List ℕ)) (s : State) (holds : Option (List ℕ)) (n : ℕ) (J : List Entry) → Playing L s held holds n J → Playing (L ++ [] ∷ []) s held holds n J
-  playing_blank L s holds n J p = record { events = p.events; outs = p.outs; reads = reads_blank L p.events p.reads; run = p.run; counted = p.counted; printed = p.printed }
-
-  pub playing_more : (L : List (List ℕ)) (bytes : List ℕ) (s new : State) (holds after : Option (List ℕ)) (n : ℕ) (J added : List Entry)
-      → Playing L s held holds n J → LineRun bytes s new added (Appends holds after) → Playing (L ++ bytes ∷ []) new held after (n + 1) (J ++ added)
-  playing_more L bytes s new holds after n J added p r = record {
-    events = p.events ++ r.event ∷ [];
-    outs = p.outs ++ r.out ∷ [];
-    reads = reads_more L p.events bytes r.event r.filled p.reads r.is_line;
-    run = more p.run r.event added r.out new r.step;
-    counted = ap (λ k. k + 1) p.counted ∙ sym (length-append p.events (r.event ∷ []));
-    printed = subst (Appends held after) (sym (print_more p.outs r.out)) (Appends-trans held holds after _ _ p.printed r.written);
-  }
-
-  -- ---- the ends
-
-  pub ends_done : (L all : List (List ℕ)) (s : State) (holds : Option (List ℕ)) (n : ℕ) (J : List Entry) → L ≡ all → Playing L s held holds n J → Halted all status.Done s n held holds J
-  ends_done L all s holds n J whole p = record {
-    lines = L;
-    events = p.events;
-    outs = p.outs;
-    front = record { rest = []; whole = sym whole ∙ sym (append-nil L) };
-    reads = p.reads;
-    counted = p.counted;
-    run = p.run;
-    stops = whole;
-    writes = p.printed;
-  }
-
-  -- nothing more was added, written or changed
-  untouched : (L : List (List ℕ)) (s new : State) (holds after : Option (List ℕ)) (n : ℕ) (J added : List Entry) → Playing L s held holds n J → IsUntouched s new added holds after → Playing L new held after n (J ++ added)
-  untouched L s new holds after n J added p u = record {
-    events = p.events;
-    outs = p.outs;
-    reads = p.reads;
-    run = subst (λ K. Run p.events K p.outs new) (sym (ap (λ l. J ++ l) u.none ∙ append-nil J)) (subst (λ (t : State). Run p.events J p.outs t) (sym u.same) p.run);
-    counted = p.counted;
-    printed = Appends-kept held holds after _ p.printed u.silent;
-  }
-
-  pub ends_bad : (L all : List (List ℕ)) (bytes : List ℕ) (s new : State) (holds after : Option (List ℕ)) (n number : ℕ) (J added : List Entry) → IsPrefix (L ++ bytes ∷ []) all → number ≡ length L + 1
-      → Playing L s held holds n J → IsUntouched s new added holds after → IsBadLine s bytes → Halted all (status.BadScript number) new n held after (J ++ added)
-  ends_bad L all bytes s new holds after n number J added next counted p u bad = let q = untouched L s new holds after n J added p u in record {
-    lines = L;
-    events = q.events;
-    outs = q.outs;
-    front = record { rest = bytes ∷ next.rest; whole = next.whole ∙ append_assoc L (bytes ∷ []) next.rest };
-    reads = q.reads;
-    counted = q.counted;
-    run = q.run;
-    stops = record { line = bytes; is_next = next; counted = counted; bad = subst (λ (t : State). IsBadLine t bytes) (sym u.same) bad };
-    writes = q.printed;
-  }
-
-  pub whole_front : (holds : Option (List ℕ)) (outs : List (Option Out)) → Appends held holds (print outs) → PrintsFront held holds outs
+  pub whole_front : (holds : Option (List ℕ)) (outs : List Outs) → Appends held holds (print outs) → PrintsFront held holds outs
   whole_front holds outs w = record {
     kept = outs;
     last = [];
@@ -97,70 +41,172 @@ module _ (held : Option (List ℕ)) where
     written = subst (Appends held holds) (sym (append-nil (print outs))) w;
   }
 
-  pub ends_short : (L all : List (List ℕ)) (s new : State) (holds after : Option (List ℕ)) (n : ℕ) (J added : List Entry) → IsPrefix L all
-      → Playing L s held holds n J → IsUntouched s new added holds after → Halted all status.NoMemory new n held after (J ++ added)
-  ends_short L all s new holds after n J added front p u = let q = untouched L s new holds after n J added p u in record {
-    lines = L;
-    events = q.events;
-    outs = q.outs;
-    front = front;
-    reads = q.reads;
-    counted = q.counted;
-    run = q.run;
-    stops = tt;
-    writes = whole_front after q.outs q.printed;
-  }
-
-  last_front : (holds after : Option (List ℕ)) (outs : List (Option Out)) (out : Option Out) (w : AppendsFront holds after (print_out out)) → Appends held holds (print outs) → PrintsFront held after (outs ++ out ∷ [])
-  last_front holds after outs out w p = record {
+  -- a front of what the last gave
+  last_front : (mid holds : Option (List ℕ)) (outs : List Outs) (out : Outs) (w : AppendsFront mid holds (print_outs out)) → Appends held mid (print outs) → PrintsFront held holds (outs ++ out ∷ [])
+  last_front mid holds outs out w p = record {
     kept = outs;
     last = out ∷ [];
     part = w.front;
     all = refl;
     one = omega arith;
-    is_part = record { rest = w.is_front.rest; whole = append-nil (print_out out) ∙ w.is_front.whole };
-    written = Appends-trans held holds after _ _ p w.written;
+    is_part = record { rest = w.is_front.rest; whole = append-nil (print_outs out) ∙ w.is_front.whole };
+    written = Appends-trans held mid holds _ _ p w.written;
   }
 
-  none_front : (holds after : Option (List ℕ)) (bytes : List ℕ) → Keeps holds after → AppendsFront holds after bytes
-  none_front holds after bytes k = record { front = []; is_front = record { rest = bytes; whole = refl }; written = Appends-kept holds holds after [] (Appends-nil holds) k }
+none_front : (mid holds : Option (List ℕ)) (bytes : List ℕ) → Keeps mid holds → AppendsFront mid holds bytes
+none_front mid holds bytes k = record { front = []; is_front = record { rest = bytes; whole = refl }; written = Appends-kept mid mid holds [] (Appends-nil mid) k }
 
-  pub ends_fault : (L all : List (List ℕ)) (bytes : List ℕ) (s new : State) (holds after : Option (List ℕ)) (n : ℕ) (J added : List Entry) → IsPrefix (L ++ bytes ∷ []) all
-      → Playing L s held holds n J → LineRun bytes s new added (AppendsFront holds after) → Halted all status.WriteFault new (n + 1) held after (J ++ added)
-  ends_fault L all bytes s new holds after n J added front p r = record {
-    lines = L ++ bytes ∷ [];
-    events = p.events ++ r.event ∷ [];
-    outs = p.outs ++ r.out ∷ [];
-    front = front;
-    reads = reads_more L p.events bytes r.event r.filled p.reads r.is_line;
-    counted = ap (λ k. k + 1) p.counted ∙ sym (length-append p.events (r.event ∷ []));
-    run = more p.run r.event added r.out new r.step;
-    stops = tt;
-    writes = last_front holds after p.outs r.out r.written p.printed;
-  }
+-- ---- what was noted
 
-  pub ends_lost : (L all : List (List ℕ)) (bytes : List ℕ) (s new : State) (holds after : Option (List ℕ)) (n : ℕ) (J added : List Entry) → IsPrefix (L ++ bytes ∷ []) all
-      → Playing L s held holds n J → LineRun bytes s new added (λ _. Keeps holds after) → Halted all status.NoMemory new (n + 1) held after (J ++ added)
-  ends_lost L all bytes s new holds after n J added front p r = record {
-    lines = L ++ bytes ∷ [];
-    events = p.events ++ r.event ∷ [];
-    outs = p.outs ++ r.out ∷ [];
-    front = front;
-    reads = reads_more L p.events bytes r.event r.filled p.reads r.is_line;
-    counted = ap (λ k. k + 1) p.counted ∙ sym (length-append p.events (r.event ∷ []));
-    run = more p.run r.event added r.out new r.step;
-    stops = tt;
-    writes = last_front holds after p.outs r.out (none_front holds after (print_out r.out) r.written) p.printed;
-  }
+paired : (token : Option (List ℕ)) (shared : Bool) (V : List Event) (J : List (List Entry)) (outs : List Outs) (s : State) → Run token shared V J outs s → length J ≡ length outs
+paired token shared V J outs s start = refl
+paired token shared V J outs s (more {events = W} {entries = K} {outs = o} {s = t} run event added out new fitted step) =
+    let h = paired token shared W K o t run in omega (arith, length-append K (added ∷ []), length-append o (out ∷ []))
 
--- ---- an event that doesn't fit
-
-pub refused : {D : Type 0} (told : Bool) (m : Meaning D BoundStmt Answer) (db db' : D) (f f' : ℕ) (old mid new : List Entry) (line : List ℕ) (s after : State) (e : Event) (held : Option (List ℕ))
-    → mid ≡ old → 0 < length line → IsLineOf line e → Adds told m db db' f f' mid new (StepsAs s e Refused after) → Adds told m db db' f f' old new (PlaysAs line s Bad after held held)
-refused told m db db' f f' old mid new line s after e held same filled is a = record {
-  added = a.added;
-  grew = subst (λ l. new ≡ l ++ a.added) same a.grew;
-  run = a.run;
-  cause = a.cause;
-  holds = (record { none = a.holds.0; same = a.holds.1; silent = Keeps-refl held }, bad_event s line e (is_filled line filled) is a.holds.2);
+-- all was, of events whose outs were written
+all_answered : (entries : List (List Entry)) (outs : List Outs) (waits : List Entry) (held holds : Option (List ℕ)) → length entries ≡ length outs → waits ≡ [] → PrintsFront held holds outs → AnswersNoted entries outs [] waits held holds
+all_answered entries outs waits held holds two none w = record {
+  answered = entries;
+  others = [];
+  told = outs;
+  untold = [];
+  all = sym (append-nil entries);
+  given = sym (append-nil outs);
+  paired = two;
+  writes = w;
+  noted = [];
+  wait = sym none;
 }
+
+-- not all of what the last added, of which nothing was written
+last_unanswered : (entries : List (List Entry)) (outs : List Outs) (added : List Entry) (out : Outs) (waits : List Entry) (held holds : Option (List ℕ)) → length entries ≡ length outs → IsLeft [] added waits → PrintsFront held holds outs
+    → AnswersNoted (entries ++ added ∷ []) (outs ++ out ∷ []) [] waits held holds
+last_unanswered entries outs added out waits held holds two left w = record {
+  answered = entries;
+  others = added ∷ [];
+  told = outs;
+  untold = out ∷ [];
+  all = refl;
+  given = refl;
+  paired = two;
+  writes = w;
+  noted = left.taken;
+  wait = append-nil (added ++ []) ∙ append-nil added ∙ left.all;
+}
+
+-- under the same token
+pub run_token : (token other : Option (List ℕ)) (shared : Bool) (line : List ℕ) (s new : State) (Written : List ℕ → Type 0) (added : List Entry) → other ≡ token → LineRun other shared line s new Written added → LineRun token shared line s new Written added
+run_token token other shared line s new Written added e r = subst (λ t. LineRun t shared line s new Written added) e r
+
+pub plays_token : (token other : Option (List ℕ)) (shared : Bool) (line : List ℕ) (s : State) (end : LineEnd) (new : State) (mid holds : Option (List ℕ)) (added : List Entry) → other ≡ token → PlaysAs other shared line s end new mid holds added → PlaysAs token shared line s end new mid holds added
+plays_token token other shared line s end new mid holds added e h = subst (λ t. PlaysAs t shared line s end new mid holds added) e h
+
+module _ (token : Option (List ℕ)) (shared : Bool) (held : Option (List ℕ)) where
+  -- ---- one line more
+
+  pub playing_none : (s : State) → s ≡ first_state → Playing token shared [] s 0 held held []
+  playing_none s new = record { events = []; entries = []; outs = []; reads = refl; counted = refl; run = subst (Run token shared [] [] []) (sym new) start; joined = refl; printed = Appends-nil held }
+
+  pub playing_blank : (L : List (List ℕ)) (s : State) (n : ℕ) (holds : Option (List ℕ)) (J : List Entry) → Playing token shared L s n held holds J → Playing token shared (L ++ [] ∷ []) s n held holds J
+  playing_blank L s n holds J p = record { events = p.events; entries = p.entries; outs = p.outs; reads = reads_blank L p.events p.reads; counted = p.counted; run = p.run; joined = p.joined; printed = p.printed }
+
+  pub playing_more : (L : List (List ℕ)) (line : List ℕ) (s new : State) (n : ℕ) (mid holds : Option (List ℕ)) (J added : List Entry)
+      → Playing token shared L s n held mid J → LineRun token shared line s new (Appends mid holds) added → Playing token shared (L ++ line ∷ []) new (n + 1) held holds (J ++ added)
+  playing_more L line s new n mid holds J added p r = record {
+    events = p.events ++ r.event ∷ [];
+    entries = p.entries ++ added ∷ [];
+    outs = p.outs ++ r.outs ∷ [];
+    reads = reads_more L p.events line r.event r.filled p.reads r.is_line;
+    counted = ap (λ k. k + 1) p.counted ∙ sym (length-append p.events (r.event ∷ []));
+    run = more p.run r.event added r.outs new r.fitted r.step;
+    joined = ap (λ l. l ++ added) p.joined ∙ sym (join_more p.entries added);
+    printed = subst (Appends held holds) (sym (print_more p.outs r.outs)) (Appends-trans held mid holds _ _ p.printed r.written);
+  }
+
+  -- ---- the ends
+
+  -- the lines so far, all of which was written and noted
+  stands : (L all : List (List ℕ)) (end : Status) (s : State) (n : ℕ) (waits : List Entry) (holds : Option (List ℕ)) (J : List Entry) → IsPrefix L all → StopsAs end L all s → waits ≡ []
+      → (p : Playing token shared L s n held holds J) → WritesAs end p.outs held holds → Halted token shared all end s n waits held holds J
+  stands L all end s n waits holds J front stops none p writes = record {
+    lines = L;
+    events = p.events;
+    entries = p.entries;
+    outs = p.outs;
+    front = front;
+    reads = p.reads;
+    counted = p.counted;
+    run = p.run;
+    joined = p.joined;
+    stops = stops;
+    writes = writes;
+    answers = all_answered p.entries p.outs waits held holds (paired token shared p.events p.entries p.outs s p.run) none (whole_front held holds p.outs p.printed);
+  }
+
+  pub ends_done : (L all : List (List ℕ)) (s : State) (n : ℕ) (waits : List Entry) (holds : Option (List ℕ)) (J : List Entry) → L ≡ all → waits ≡ [] → Playing token shared L s n held holds J → Halted token shared all status.Done s n waits held holds J
+  ends_done L all s n waits holds J whole none p = stands L all status.Done s n waits holds J (record { rest = []; whole = sym whole ∙ sym (append-nil L) }) whole none p p.printed
+
+  -- nothing more was added, written or changed
+  untouched : (L : List (List ℕ)) (s new : State) (n : ℕ) (mid holds : Option (List ℕ)) (J added : List Entry) → Playing token shared L s n held mid J → IsUntouched s new mid holds added → Playing token shared L new n held holds (J ++ added)
+  untouched L s new n mid holds J added p u = record {
+    events = p.events;
+    entries = p.entries;
+    outs = p.outs;
+    reads = p.reads;
+    counted = p.counted;
+    run = subst (Run token shared p.events p.entries p.outs) (sym u.same) p.run;
+    joined = ap (λ l. J ++ l) u.none ∙ append-nil J ∙ p.joined;
+    printed = Appends-kept held mid holds _ p.printed u.silent;
+  }
+
+  -- the line's event was the last, and so much was noted and written
+  ran : (L all : List (List ℕ)) (line : List ℕ) (end : Status) (s new : State) (n : ℕ) (waits : List Entry) (mid holds : Option (List ℕ)) (Written : List ℕ → Type 0) (J added : List Entry) → IsPrefix (L ++ line ∷ []) all → StopsAs end (L ++ line ∷ []) all new
+      → (p : Playing token shared L s n held mid J) (r : LineRun token shared line s new Written added) → WritesAs end (p.outs ++ r.outs ∷ []) held holds
+      → AnswersNoted (p.entries ++ added ∷ []) (p.outs ++ r.outs ∷ []) [] waits held holds → Halted token shared all end new (n + 1) waits held holds (J ++ added)
+  ran L all line end s new n waits mid holds Written J added next stops p r writes answers = record {
+    lines = L ++ line ∷ [];
+    events = p.events ++ r.event ∷ [];
+    entries = p.entries ++ added ∷ [];
+    outs = p.outs ++ r.outs ∷ [];
+    front = next;
+    reads = reads_more L p.events line r.event r.filled p.reads r.is_line;
+    counted = ap (λ k. k + 1) p.counted ∙ sym (length-append p.events (r.event ∷ []));
+    run = more p.run r.event added r.outs new r.fitted r.step;
+    joined = ap (λ l. l ++ added) p.joined ∙ sym (join_more p.entries added);
+    stops = stops;
+    writes = writes;
+    answers = answers;
+  }
+
+  module _ (L all : List (List ℕ)) (line : List ℕ) (s new : State) (n number : ℕ) (waits : List Entry) (mid holds : Option (List ℕ)) (J added : List Entry) (next : IsPrefix (L ++ line ∷ []) all) (p : Playing token shared L s n held mid J) where
+    front : IsPrefix L all
+    front = record { rest = line ∷ next.rest; whole = next.whole ∙ append_assoc L (line ∷ []) next.rest }
+
+    two : length p.entries ≡ length p.outs
+    two = paired token shared p.events p.entries p.outs s p.run
+
+    both : (out : Outs) → length (p.entries ++ added ∷ []) ≡ length (p.outs ++ out ∷ [])
+    both out = let h = two in omega (arith, length-append p.entries (added ∷ []), length-append p.outs (out ∷ []))
+
+    unsaved : (end : Status) → StopsAs end (L ++ line ∷ []) all new → ((outs : List Outs) → PrintsFront held holds outs → WritesAs end outs held holds) → IsLeft [] added waits
+        → LineRun token shared line s new (λ bytes. Keeps mid holds) added → Halted token shared all end new (n + 1) waits held holds (J ++ added)
+    unsaved end stops writes left r =
+        ran L all line end s new n waits mid holds _ J added next stops p r (writes _ (last_front held mid holds p.outs r.outs (none_front mid holds (print_outs r.outs) r.written) p.printed))
+        (last_unanswered p.entries p.outs added r.outs waits held holds two left (whole_front held holds p.outs (Appends-kept held mid holds _ p.printed r.written)))
+
+    unwritten : (end : Status) → StopsAs end (L ++ line ∷ []) all new → ((outs : List Outs) → PrintsFront held holds outs → WritesAs end outs held holds) → waits ≡ []
+        → LineRun token shared line s new (AppendsFront mid holds) added → Halted token shared all end new (n + 1) waits held holds (J ++ added)
+    unwritten end stops writes none r = let w = last_front held mid holds p.outs r.outs r.written p.printed in
+        ran L all line end s new n waits mid holds _ J added next stops p r (writes _ w) (all_answered _ _ waits held holds (both r.outs) none w)
+
+    pub ends_at : (end : LineEnd) → (end ≡ Played → ⊥) → number ≡ length L + 1 → (is_saved end ≡ true → waits ≡ []) → IsLeft [] added waits → PlaysAs token shared line s end new mid holds added
+        → Halted token shared all (status_at end number) new (count_at end n) waits held holds (J ++ added)
+    ends_at Played not counted saved left h = absurd (not refl)
+    ends_at Bad not counted saved left h = let q = untouched L s new n mid holds J added p h.0 in
+        stands L all (status.BadScript number) new n waits holds (J ++ added) front (record { line = line; is_next = next; counted = counted; bad = subst (λ (t : State). IsBadLine t line) (sym h.0.same) h.1 }) (saved refl) q q.printed
+    ends_at Short not counted saved left h = let q = untouched L s new n mid holds J added p h in
+        stands L all status.NoMemory new n waits holds (J ++ added) front tt (saved refl) q (whole_front held holds q.outs q.printed)
+    ends_at (Unsaved journal.Fault) not counted saved left h = unsaved status.JournalFault tt (λ outs w. w) left h
+    ends_at (Unsaved journal.NoMemory) not counted saved left h = unsaved status.NoMemory tt (λ outs w. w) left h
+    ends_at (Unwritten write.Fault) not counted saved left h = unwritten status.WriteFault tt (λ outs w. w) (saved refl) h
+    ends_at (Unwritten write.NoMemory) not counted saved left h = unwritten status.NoMemory tt (λ outs w. w) (saved refl) h

@@ -1,21 +1,15 @@
-//! The server's loop around one connection and one stream, and the top call.
+//! The top call: a script is played over the hub, and what its events add is noted by a journal.
 #![tactic(auto)]
 
-mod ask;
-mod checked;
-mod checks;
-mod hub;
-mod laws;
 mod lines;
-mod message;
+mod notes;
+mod prints;
 mod replay;
-mod replies;
 mod script;
 mod top;
+mod words;
 
 pub use engine_core::Status;
-pub use laws::{
-    at_most_one_entry_each, no_line_is_two_events, no_text_is_two_messages, one_entry_a_request,
-    outs_are_determined, replies_follow_requests,
-};
+pub use script::no_line_is_two_events;
 pub use top::{Ended, World, hrana};
+pub use words::{MAX_TOKEN_BYTES, limits_are};

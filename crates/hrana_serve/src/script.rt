@@ -1,30 +1,26 @@
 // The lines of a script.
-ghost use Rattle.std.specs.Prelude.{◌≡◌, ◌<◌, ◌^◌, ◌++◌, ℕ, decimal, ◌≢◌, List, MatchOption, IsTrue, false, IfOk, IfErr};
-ghost use Rattle.hrana_serve.specs.Script.{IsLineOf, IsOfOne};
-ghost use Rattle.hrana_serve.specs.declared.script.Event.{Event};
+ghost use Rattle.std.specs.Prelude.{◌≡◌, ◌<◌, ◌^◌, ◌++◌, ◌∷◌, ◌≢◌, ℕ, List, decimal, IsTrue, false, IfOk, IfErr};
+ghost use Rattle.hrana_hub.specs.declared.events.Event.{Event};
+ghost use Rattle.hrana_serve.specs.Script.{IsLineOf, OneEventALine};
 
+use hrana_hub::Event;
 use hrana_value::{Bytes, StreamNo};
+use memchr::memchr;
 use std::alloc::Global;
-
-/// What may happen to the server.
-#[derive(Debug, Drop)]
-pub enum Event {
-    /// A connection was opened.
-    Opened { conn: u32 },
-    /// A text came on a connection.
-    Text { conn: u32, text: Bytes },
-    /// A stream may run its next statement.
-    Poll { stream: StreamNo },
-    /// The run ends.
-    Stop,
-}
 
 /// Why a line gives no event.
 #[derive(Clone, Copy, Debug, PartialEq, Eq)]
 pub enum LineFail {
-    /// It is no line of an event on connection 1.
+    /// It is no line of an event.
     NoEvent,
     NoMemory,
+}
+
+fn is_same(bytes: &[u8], others: &[u8]) -> bool
+    ensures same { IsTrue result → bytes.now ≡ others.now }
+    ensures differs { result ≡ false → bytes.now ≢ others.now }
+{
+    bytes == others
 }
 
 /// The number that a text writes, without a sign or a leading zero.
@@ -48,41 +44,66 @@ fn number_of(alloc: Global, bytes: &[u8]) -> Result<u64, LineFail>
     }
 }
 
-/// What follows the prefix.
-fn after<'a>(line: &'a [u8], prefix: &[u8]) -> Option<&'a [u8]>
-    ensures { MatchOption result ((rest : List ℕ) → line.now ≢ prefix.now ++ rest) (λ rest. line.now ≡ prefix.now ++ rest.now) }
+/// The number of a connection.
+fn conn_of(alloc: Global, bytes: &[u8]) -> Result<u32, LineFail>
+    ensures ok { IfOk result (λ n. bytes.now ≡ decimal n) }
+    ensures none { IfErr result (λ err. err ≡ LineFail.NoEvent → (n : ℕ) → n < 2 ^ 32 → bytes.now ≡ decimal n → ⊥) }
 {
-    line.strip_prefix(prefix)
+    let number = number_of(alloc, bytes)?;
+    match u32::try_from(number) {
+        Ok(conn) => Ok(conn),
+        Err(_) => Err(LineFail::NoEvent),
+    }
 }
 
-fn is_same(line: &[u8], other: &[u8]) -> bool
-    ensures same { IsTrue result → line.now ≡ other.now }
-    ensures differs { result ≡ false → line.now ≢ other.now }
+/// The number of a connection, and the text that follows it and a space.
+fn text_of(alloc: Global, bytes: &[u8]) -> Result<(u32, Bytes), LineFail>
+    ensures ok { IfOk result (λ parts. bytes.now ≡ decimal parts.0 ++ 32 ∷ parts.1) }
+    ensures none { IfErr result (λ err. err ≡ LineFail.NoEvent → (conn : ℕ) (text : List ℕ) → conn < 2 ^ 32 → bytes.now ≡ decimal conn ++ 32 ∷ text → ⊥) }
 {
-    line == other
+    let Some(at) = memchr(b' ', bytes) else {
+        return Err(LineFail::NoEvent);
+    };
+    let conn = conn_of(alloc, &bytes[..at])?;
+    match Bytes::new(alloc, &bytes[at + 1..]) {
+        Ok(text) => Ok((conn, text)),
+        Err(_) => Err(LineFail::NoMemory),
+    }
 }
 
-/// The event of a line: `+ 1`, `> 1 TEXT` or `! N`.
+/// The event of a line: `+ C`, `> C TEXT`, `# C`, `! N` or `- C`.
 pub fn event_of_line(alloc: Global, line: &[u8]) -> Result<Event, LineFail>
     ensures ok { IfOk result (λ event. IsLineOf line.now event) }
-    ensures of_one { IfOk result IsOfOne }
-    ensures none { IfErr result (λ err. err ≡ LineFail.NoEvent → (event : Event) → IsOfOne event → IsLineOf line.now event → ⊥) }
+    ensures none { IfErr result (λ err. err ≡ LineFail.NoEvent → (event : Event) → IsLineOf line.now event → ⊥) }
 {
-    if let Some(digits) = after(line, b"! ") {
-        let number = number_of(alloc, digits)?;
-        return Ok(Event::Poll {
-            stream: StreamNo(number),
-        });
-    }
-    if let Some(text) = after(line, b"> 1 ") {
-        return match Bytes::new(alloc, text) {
-            Ok(text) => Ok(Event::Text { conn: 1, text }),
-            Err(_) => Err(LineFail::NoMemory),
-        };
-    }
-    if is_same(line, b"+ 1") {
-        Ok(Event::Opened { conn: 1 })
-    } else {
-        Err(LineFail::NoEvent)
+    match line {
+        [b'+', b' ', digits @ ..] => {
+            let conn = conn_of(alloc, digits)?;
+            Ok(Event::Opened { conn })
+        }
+        [b'>', b' ', rest @ ..] => {
+            let (conn, text) = text_of(alloc, rest)?;
+            Ok(Event::Text { conn, text })
+        }
+        [b'#', b' ', digits @ ..] => {
+            let conn = conn_of(alloc, digits)?;
+            Ok(Event::Binary { conn })
+        }
+        [b'!', b' ', digits @ ..] => {
+            let number = number_of(alloc, digits)?;
+            Ok(Event::Poll {
+                stream: StreamNo(number),
+            })
+        }
+        [b'-', b' ', digits @ ..] => {
+            let conn = conn_of(alloc, digits)?;
+            Ok(Event::Lost { conn })
+        }
+        _ => Err(LineFail::NoEvent),
     }
 }
+
+/// No line stands for two events.
+pub fn no_line_is_two_events()
+    ensures { OneEventALine }
+{}

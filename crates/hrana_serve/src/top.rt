@@ -1,31 +1,41 @@
 // The top call.
-ghost use Rattle.std.specs.Prelude.{◌≡◌, ◌↔◌, ◌<◌, ◌≤◌, ◌⊎◌, ℕ, [], length, map, IfSome, IsTrue};
-ghost use Rattle.serial_order.specs.Serial.{serial, last_database};
-ghost use Rattle.serial_order.specs.Explained.{Explained};
+ghost use Rattle.std.specs.Prelude.{◌≡◌, ◌↔◌, ◌<◌, ◌≤◌, ◌⊎◌, ℕ, List, Option, [], length, map, option_map, Some, None, IfSome, IfOk, IsTrue};
 ghost use Rattle.engine_core.specs.Bytes.{lines_of};
 ghost use Rattle.engine_core.specs.Causes.{Rose, RoseBy};
 ghost use Rattle.engine_core.specs.Journal.{entry_of, fault_count};
 ghost use Rattle.engine_core.specs.Transactions.{NoneLive};
 ghost use Rattle.engine_core.specs.Transfer.{given_count};
-ghost use Rattle.hrana_serve.specs.Top.{IsReplay, JournalFits, OutputExact, AnswersInOrder, IsFirstBad};
+ghost use Rattle.engine_core.specs.declared.limits.TheConstants.{MAX_INPUT_BYTES};
+ghost use Rattle.stream_task.specs.Laws.{BatchesAreMeant};
+ghost use Rattle.stream_task.specs.Leads.{IsExplained};
+ghost use Rattle.hrana_hub.specs.Agrees.{IsNew};
+ghost use Rattle.hrana_hub.specs.Laws.{DeadAddNothing};
+ghost use Rattle.hrana_serve.specs.Clauses.{WithJournal};
+ghost use Rattle.hrana_serve.specs.Outcome.{Outcome, IsEarly, LeavesBy};
+ghost use Rattle.hrana_serve.specs.Replay.{IsLinesStatus};
+ghost use Rattle.hrana_serve.specs.Story.{HasStory, HasWritten, HasAnswered, HasReplies, IsFirstBad};
+ghost use Rattle.hrana_serve.specs.Words.{AsksReplay, texts_of, token_in};
 
-use crate::replay::play;
+use crate::replay::{play_lines, stop};
+use crate::words::replay_token;
 use engine_core::{
-    Answer, BoundStmt, Engine, Entries, Entry, MAX_INPUT_BYTES, ReadAllFail, Sink, Source, Status,
-    read_all,
+    Engine, Entry, Journal, MAX_INPUT_BYTES, ReadAllFail, Sink, Source, Status, read_all,
 };
-use serial_order::serial_order;
+use hrana_hub::{Hub, a_new_hub_agrees, replies_follow_requests, the_dead_add_nothing};
+use hrana_value::{NoMemory, Txt};
 use std::alloc::Global;
+use stream_task::{batches_are_meant, journal_says_what_stands, streams_stand_at_first};
 
 /// What the program runs over.
 #[derive(Drop)]
-pub struct World<I, O, E> {
+pub struct World<I, O, E, J> {
     pub source: I,
     pub sink: O,
     pub engine: E,
+    pub journal: J,
 }
 
-/// How a run ended, the entries that no journal took, and the number of events that were run before `Stop`.
+/// How a run ended, the entries that the journal didn't take, and the number of events that were run before `Stop`.
 #[derive(Drop)]
 pub struct Ended {
     pub status: Status,
@@ -33,20 +43,22 @@ pub struct Ended {
     pub events: u64,
 }
 
-fn is_replay(words: &[&str]) -> bool
-    ensures { IsTrue result ↔ IsReplay (map (λ word. word.now) words.now) }
-{
-    match words {
-        [word] => *word == "replay",
-        _ => false,
-    }
-}
-
-fn at_once(alloc: Global, status: Status) -> Ended
+/// An end before the first event.
+fn at_once<E: Engine, J: Journal, O: Sink>(
+    alloc: Global,
+    status: Status,
+    engine: &E,
+    journal: &J,
+    sink: &O,
+) -> Ended
+    requires early { IsEarly status }
+    requires quiet { NoneLive (E.live engine.now) }
     ensures status { result.status ≡ status }
-    ensures unsaved { result.unsaved.items ≡ [] }
-    ensures events { result.events ≡ 0 }
+    ensures outcome { (token left : Option (List ℕ)) → Outcome E.told E.SHARED E.meaning E.db E.live E.faults engine.now engine.now J.noted J.faults journal.now journal.now O.written O.faults sink.now sink.now
+        token left result.status result.events result.unsaved.items }
 {
+    streams_stand_at_first::<E>();
+    journal_says_what_stands::<E>();
     Ended {
         status,
         unsaved: Vec::new(alloc),
@@ -54,64 +66,168 @@ fn at_once(alloc: Global, status: Status) -> Ended
     }
 }
 
-/// Runs the words over the world. The one form so far is `replay`: it reads the source to its end and runs each line's
-/// event, writing what it gives; `Stop` is the last event.
-pub fn hrana<I: Source, O: Sink, E: Engine>(
+fn new_hub(alloc: Global, token: Option<&str>) -> Result<Hub, NoMemory>
+    ensures { IfOk result (λ hub. IsNew (option_map (λ word. word.now) token.entry) hub) }
+{
+    match token {
+        Some(token) => Hub::new(alloc, Some(Txt::new(alloc, token)?)),
+        None => Hub::new(alloc, None),
+    }
+}
+
+/// Runs the lines of a script over a new hub, and then `Stop`, whatever stopped the lines.
+fn run<E: Engine, J: Journal, O: Sink>(
+    alloc: Global,
+    token: Option<&str>,
+    script: &[u8],
+    engine: &mut E,
+    journal: &mut J,
+    sink: &mut O,
+) -> Ended
+    requires quiet { NoneLive (E.live engine.old) }
+    requires short { length script.now ≤ MAX_INPUT_BYTES }
+    ensures outcome { Outcome E.told E.SHARED E.meaning E.db E.live E.faults engine.old engine.new J.noted J.faults journal.old journal.new O.written O.faults sink.old sink.new
+        (option_map (λ word. word.now) token.entry) (Some script.now) result.status result.events result.unsaved.items }
+    ensures ends { IsLinesStatus result.status }
+{
+    a_new_hub_agrees::<E>();
+    journal_says_what_stands::<E>();
+    let Ok(mut hub) = new_hub(alloc, token) else {
+        return at_once(alloc, Status::NoMemory, engine, journal, sink);
+    };
+    let halt = play_lines(alloc, script, &mut hub, engine, journal, sink);
+    let status = stop(&mut hub, engine, journal, halt);
+    Ended {
+        status,
+        unsaved: hub.into_entries(),
+        events: halt.events,
+    }
+}
+
+fn status_of(fail: ReadAllFail) -> Status
+    ensures early { IsEarly result }
+    ensures words { result ≡ Status.BadWords → ⊥ }
+    ensures fault { result ≡ Status.ReadFault → fail ≡ ReadAllFail.Fault }
+    ensures too_long { (result ≡ Status.InputTooLong) ↔ (fail ≡ ReadAllFail.TooLong) }
+{
+    match fail {
+        ReadAllFail::Fault => Status::ReadFault,
+        ReadAllFail::TooLong => Status::InputTooLong,
+        ReadAllFail::NoMemory => Status::NoMemory,
+    }
+}
+
+/// Reads the source to its end, and runs the script over a hub that requires the token.
+fn replay<I: Source, O: Sink, E: Engine, J: Journal>(
+    alloc: Global,
+    token: Option<&str>,
+    world: &mut World<I, O, E, J>,
+) -> Ended
+    requires quiet { NoneLive (E.live world.old.engine) }
+    ensures outcome { Outcome E.told E.SHARED E.meaning E.db E.live E.faults world.old.engine world.new.engine J.noted J.faults world.old.journal world.new.journal O.written O.faults world.old.sink world.new.sink
+        (option_map (λ word. word.now) token.entry) (I.left world.old.source) result.status result.events result.unsaved.items }
+    ensures words { result.status ≡ Status.BadWords → ⊥ }
+    ensures too_long { IfSome (I.left world.old.source) (λ _. (result.status ≡ Status.InputTooLong) ↔ (MAX_INPUT_BYTES < given_count (I.left world.old.source) (I.left world.new.source))) }
+    ensures read_fault { result.status ≡ Status.ReadFault → Rose (I.faults world.old.source) (I.faults world.new.source) }
+{
+    match read_all(alloc, &mut world.source) {
+        Ok(script) => run(
+            alloc,
+            token,
+            script.as_slice(),
+            &mut world.engine,
+            &mut world.journal,
+            &mut world.sink,
+        ),
+        Err(fail) => at_once(
+            alloc,
+            status_of(fail),
+            &world.engine,
+            &world.journal,
+            &world.sink,
+        ),
+    }
+}
+
+/// Runs the words, whose one form so far is that of a replay.
+fn answer<I: Source, O: Sink, E: Engine, J: Journal>(
     alloc: Global,
     words: &[&str],
-    world: &mut World<I, O, E>,
+    world: &mut World<I, O, E, J>,
+) -> Ended
+    requires quiet { NoneLive (E.live world.old.engine) }
+    ensures outcome { Outcome E.told E.SHARED E.meaning E.db E.live E.faults world.old.engine world.new.engine J.noted J.faults world.old.journal world.new.journal O.written O.faults world.old.sink world.new.sink
+        (token_in (texts_of words.now)) (I.left world.old.source) result.status result.events result.unsaved.items }
+    ensures words { (result.status ≡ Status.BadWords) ↔ ¬ (AsksReplay (texts_of words.now)) }
+    ensures too_long { AsksReplay (texts_of words.now) → IfSome (I.left world.old.source) (λ _. (result.status ≡ Status.InputTooLong) ↔ (MAX_INPUT_BYTES < given_count (I.left world.old.source) (I.left world.new.source))) }
+    ensures read_fault { result.status ≡ Status.ReadFault → Rose (I.faults world.old.source) (I.faults world.new.source) }
+{
+    match replay_token(words) {
+        Some(token) => replay(alloc, token, world),
+        None => at_once(
+            alloc,
+            Status::BadWords,
+            &world.engine,
+            &world.journal,
+            &world.sink,
+        ),
+    }
+}
+
+/// Runs the words over the world. The one form so far is `replay`, with the token that connections have to give, or without one: it
+/// reads the source to its end and runs each line's event, noting what it adds and then writing what it gives; `Stop` is the last
+/// event. Where the journal tells its list, the entries of a run are those that it noted in this call, followed by `unsaved`.
+pub fn hrana<I: Source, O: Sink, E: Engine, J: Journal>(
+    alloc: Global,
+    words: &[&str],
+    world: &mut World<I, O, E, J>,
 ) -> Ended
     requires quiet { NoneLive (E.live world.old.engine) }
 
-    // The events are those of the script's lines up to the first bad one, and then `Stop`. The entries are those that
-    // these events add.
-    ensures journal_fits { IfSome (I.left world.old.source) (λ script. JournalFits script result.status result.events result.unsaved.items) }
+    // The events are those of the script's lines up to the first bad one, and then `Stop`. The entries are those that these events add.
+    ensures journal_fits { WithJournal (J.noted world.old.journal) (J.noted world.new.journal) result.unsaved.items (λ entries. IfSome (I.left world.old.source) (λ script.
+        HasStory (token_in (texts_of words.now)) E.SHARED (lines_of script) result.status result.events entries)) }
 
-    // Executing the journal's units one at a time in serial order gives every answer, and the last database.
-    ensures serial_explains { IsTrue E.told → Explained E.meaning (E.db world.old.engine) (map entry_of result.unsaved.items) }
-    ensures last_database { IsTrue E.told → E.db world.new.engine ≡ last_database E.meaning (E.db world.old.engine) (serial (map entry_of result.unsaved.items)) }
+    // The entries explain themselves: executing their units one at a time in serial order gives every answer, and the last database.
+    ensures serial_explains { IsTrue E.told → WithJournal (J.noted world.old.journal) (J.noted world.new.journal) result.unsaved.items (λ entries.
+        IsExplained E.SHARED E.meaning (E.db world.old.engine) (map entry_of entries) (E.db world.new.engine)) }
 
     // No transaction is live at the end.
     ensures quiet { NoneLive (E.live world.new.engine) }
 
     // What was written is what the outs of the events are printed as: all of it, or a front.
-    ensures output_exact { IfSome (I.left world.old.source) (λ script. OutputExact script result.status result.events result.unsaved.items (O.written world.old.sink) (O.written world.new.sink)) }
-    ensures replies_in_order { IfSome (I.left world.old.source) (λ script. AnswersInOrder script result.events result.unsaved.items) }
+    ensures output_exact { WithJournal (J.noted world.old.journal) (J.noted world.new.journal) result.unsaved.items (λ entries. IfSome (I.left world.old.source) (λ script.
+        HasWritten (token_in (texts_of words.now)) E.SHARED (lines_of script) result.status result.events (O.written world.old.sink) (O.written world.new.sink) entries)) }
+
+    // The journal took each entry of an event whose outs were written.
+    ensures answered_is_journaled { WithJournal (J.noted world.old.journal) (J.noted world.new.journal) result.unsaved.items (λ entries. IfSome (I.left world.old.source) (λ script.
+        HasAnswered (token_in (texts_of words.now)) E.SHARED (lines_of script) result.events result.unsaved.items (O.written world.old.sink) (O.written world.new.sink) entries)) }
+    ensures unsaved_cause { LeavesBy (J.faults world.old.journal) (J.faults world.new.journal) result.status result.unsaved.items }
+    ensures done { result.status ≡ Status.Done → result.unsaved.items ≡ [] }
+
+    // The replies of each stream are those of its requests, in their order. A batch's outcomes are those that it means. What is dead or
+    // gone adds no entry.
+    ensures replies_in_order { WithJournal (J.noted world.old.journal) (J.noted world.new.journal) result.unsaved.items (λ entries. IfSome (I.left world.old.source) (λ script.
+        HasReplies (token_in (texts_of words.now)) E.SHARED (lines_of script) result.events entries)) }
+    ensures batches_as_meant { BatchesAreMeant }
+    ensures dead_add_nothing { DeadAddNothing }
 
     // Each status has its cause. Only want of memory is free.
-    ensures bad_words { (result.status ≡ Status.BadWords) ↔ ¬ (IsReplay (map (λ word. word.now) words.now)) }
-    ensures bad_script { (line : ℕ) → result.status ≡ Status.BadScript line → IfSome (I.left world.old.source) (λ script. IsFirstBad (lines_of script) line) }
-    ensures done { result.status ≡ Status.Done → IfSome (I.left world.old.source) (λ script. (line : ℕ) → IsFirstBad (lines_of script) line → ⊥) }
-    ensures input_too_long { IsReplay (map (λ word. word.now) words.now) → IfSome (I.left world.old.source) (λ _. (result.status ≡ Status.InputTooLong) ↔ (MAX_INPUT_BYTES < given_count (I.left world.old.source) (I.left world.new.source))) }
+    ensures bad_words { (result.status ≡ Status.BadWords) ↔ ¬ (AsksReplay (texts_of words.now)) }
+    ensures bad_script { (line : ℕ) → result.status ≡ Status.BadScript line → WithJournal (J.noted world.old.journal) (J.noted world.new.journal) result.unsaved.items (λ entries. IfSome (I.left world.old.source) (λ script.
+        IsFirstBad (token_in (texts_of words.now)) E.SHARED (lines_of script) line result.events entries)) }
+    ensures input_too_long { AsksReplay (texts_of words.now) → IfSome (I.left world.old.source) (λ _. (result.status ≡ Status.InputTooLong) ↔ (MAX_INPUT_BYTES < given_count (I.left world.old.source) (I.left world.new.source))) }
     ensures read_fault { result.status ≡ Status.ReadFault → Rose (I.faults world.old.source) (I.faults world.new.source) }
     ensures write_fault { result.status ≡ Status.WriteFault → Rose (O.faults world.old.sink) (O.faults world.new.sink) }
-    ensures complete { IsReplay (map (λ word. word.now) words.now) → (Rose (I.faults world.old.source) (I.faults world.new.source) → ⊥) → (Rose (O.faults world.old.sink) (O.faults world.new.sink) → ⊥)
-        → IfSome (I.left world.old.source) (λ script. length script ≤ MAX_INPUT_BYTES → ((line : ℕ) → IsFirstBad (lines_of script) line → ⊥) → (result.status ≡ Status.Done) ⊎ (result.status ≡ Status.NoMemory)) }
-    ensures engine_faults { RoseBy (fault_count result.unsaved.items) (E.faults world.old.engine) (E.faults world.new.engine) }
+    ensures journal_fault { result.status ≡ Status.JournalFault → Rose (J.faults world.old.journal) (J.faults world.new.journal) }
+    ensures complete { AsksReplay (texts_of words.now)
+        → (Rose (I.faults world.old.source) (I.faults world.new.source) → ⊥) → (Rose (O.faults world.old.sink) (O.faults world.new.sink) → ⊥) → (Rose (J.faults world.old.journal) (J.faults world.new.journal) → ⊥)
+        → WithJournal (J.noted world.old.journal) (J.noted world.new.journal) result.unsaved.items (λ entries. IfSome (I.left world.old.source) (λ script.
+        length script ≤ MAX_INPUT_BYTES → ((line : ℕ) → IsFirstBad (token_in (texts_of words.now)) E.SHARED (lines_of script) line result.events entries → ⊥) → (result.status ≡ Status.Done) ⊎ (result.status ≡ Status.NoMemory))) }
+    ensures engine_faults { WithJournal (J.noted world.old.journal) (J.noted world.new.journal) result.unsaved.items (λ entries. RoseBy (fault_count entries) (E.faults world.old.engine) (E.faults world.new.engine)) }
 {
-    serial_order::<E::Db, BoundStmt, Answer>();
-    if !is_replay(words) {
-        return at_once(alloc, Status::BadWords);
-    }
-    let bytes = match read_all(alloc, &mut world.source) {
-        Ok(bytes) => bytes,
-        Err(ReadAllFail::Fault) => return at_once(alloc, Status::ReadFault),
-        Err(ReadAllFail::TooLong) => return at_once(alloc, Status::InputTooLong),
-        Err(ReadAllFail::NoMemory) => return at_once(alloc, Status::NoMemory),
-    };
-    let Ok(mut entries) = Entries::new(alloc) else {
-        return at_once(alloc, Status::NoMemory);
-    };
-    let halt = play(
-        alloc,
-        bytes.as_slice(),
-        &mut world.engine,
-        &mut entries,
-        &mut world.sink,
-    );
-    Ended {
-        status: halt.status,
-        unsaved: entries.into_vec(),
-        events: halt.events,
-    }
+    replies_follow_requests();
+    batches_are_meant();
+    the_dead_add_nothing();
+    answer(alloc, words, world)
 }

@@ -171,7 +171,7 @@ adds_ran shared told m db live faults s engine engine' t held t' old new st want
   writes = begins_writer r;
   effects = ran.effect;
   untouched = tt;
-  moved = record { from = facts.from; turn = facts.table.turn; version = facts.table.version; reserved = facts.table.reserved; rests = ran.goes };
+  moved = record { from = facts.from; turn = facts.table.turn; version = facts.table.version; reserved = facts.table.reserved; rests = (ran.goes, facts.table.waiters) };
   cause = ran.cause;
   refused = ran.refused;
   holds = λ ready is_ready.
@@ -240,7 +240,7 @@ adds_denied told m db live faults s engine t t' old new st want q r why (Out x n
       writes = false;
       effects = record { database = refl; lives = λ n. refl };
       untouched = tt;
-      moved = record { from = lives; turn = ap (λ (x : Turns). x.turn) stays; version = ap (λ (x : Turns). x.version) stays; reserved = ap (λ (x : Turns). x.reserved) stays; rests = refl };
+      moved = record { from = lives; turn = ap (λ (x : Turns). x.turn) stays; version = ap (λ (x : Turns). x.version) stays; reserved = ap (λ (x : Turns). x.reserved) stays; rests = (refl, inl (ap (λ (x : Turns). x.waiters) stays)) };
       cause = rose_none (faults engine);
       refused = tt;
       holds = λ ready is_ready.
@@ -343,7 +343,7 @@ undoes shared told m db live db' live' t t' old new s st u why e law unit a belo
     let same : new.next ≡ old.next = next ∙ ap (next_after old.next) is in
     record {
       from = from;
-      table = record { turn = turn; version = ap (λ (x : Turns). x.version) ended; reserved = ap (λ (x : Turns). x.reserved) ended };
+      table = record { turn = turn; version = ap (λ (x : Turns). x.version) ended; reserved = ap (λ (x : Turns). x.reserved) ended; waiters = inl (ap (λ (x : Turns). x.waiters) ended) };
       effect = effect;
       next = same;
       below = subst (λ (n : ℕ). AreBelow live' n) (sym same) (below_after told m false db live db' live' old.next t s (Some end) effect from below);
@@ -362,7 +362,7 @@ adds_undone shared told m db live faults s engine engine' t t' old new u why e e
   writes = false;
   effects = facts.effect;
   untouched = tt;
-  moved = record { from = facts.from; turn = facts.table.turn; version = facts.table.version; reserved = facts.table.reserved; rests = refl };
+  moved = record { from = facts.from; turn = facts.table.turn; version = facts.table.version; reserved = facts.table.reserved; rests = (refl, facts.table.waiters) };
   cause = omega arith;
   refused = tt;
   holds = expects;

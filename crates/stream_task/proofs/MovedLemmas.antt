@@ -1,5 +1,5 @@
 -- What an entry does to the turn, by the row that added it.
-use Rattle.std.proofs.Common.{◌≡◌, ◌≢◌, ◌≤◌, ◌+◌, ℕ, Bool, true, false, cond, Option, Some, None, refl, sym, ap, ◌∙◌, subst, arith}
+use Rattle.std.proofs.Common.{◌≡◌, ◌≢◌, ◌≤◌, ◌+◌, ℕ, Bool, true, false, cond, Option, Some, None, refl, sym, ap, ◌∙◌, subst, arith, inl, inr}
 use Rattle.hrana_value.specs.declared.StreamNo.{StreamNo}
 use Rattle.sql_text.specs.declared.class.Class.{Class}
 use Rattle.sql_text.specs.declared.class.Class.TheVariants as class
@@ -12,7 +12,7 @@ use Rattle.engine_core.specs.declared.entries.Deny.TheVariants as deny
 use Rattle.engine_core.specs.declared.entries.How.TheVariants as how
 use Rattle.engine_core.specs.declared.entries.Entry.{Entry}
 use Rattle.engine_core.specs.declared.entries.Entry.TheVariants as entry
-use Rattle.stream_task.specs.Moved.{settled, turn_by, version_by, turn_given, table_given, AgreesAs}
+use Rattle.stream_task.specs.Moved.{WaitersStay, settled, turn_by, version_by, turn_given, table_given, AgreesAs}
 use Rattle.stream_task.specs.Table.{Seen, MayAdd, MayBeAlone, MayBegin, MayRun, MayCommit, MayUpgrade, need_of, begins_writer}
 use Rattle.stream_task.specs.declared.session.TxnState.{TxnState}
 use Rattle.stream_task.specs.declared.session.TxnState.TheVariants.{Auto, Deferred, Reading, Writing}
@@ -27,6 +27,7 @@ pub record Moves (s : StreamNo) (writes : Bool) (e : Entry) (t t' : Turns) : Typ
   pub turn : t'.turn ≡ turn_by s writes (Some e) t.turn
   pub version : t'.version ≡ version_by (Some e) t.version
   pub reserved : t'.reserved ≡ t.reserved
+  pub waiters : WaitersStay s t t'
 
 -- ---- the turn was taken for it
 
@@ -35,14 +36,14 @@ back : (s : StreamNo) (t held : Turns) → TookTurn s t held → given_back held
 back s t held k = ap (λ o. given_back o s) k.turn ∙ given_own s ∙ sym k.free
 
 moves_alone : (s : StreamNo) (q : BoundStmt) (writes : Bool) (e : Entry) (t held : Turns) → TookTurn s t held → MayBeAlone s q e → Moves s writes e t (settled s e held)
-moves_alone s q writes (entry.Alone by p a true) t held k h = record { turn = sym k.free; version = ap (λ n. n + 1) k.version; reserved = k.reserved }
-moves_alone s q writes (entry.Alone by p a false) t held k h = record { turn = back s t held k; version = k.version; reserved = k.reserved }
-moves_alone s q writes (entry.Failed by None why) t held k h = record { turn = back s t held k; version = k.version; reserved = k.reserved }
+moves_alone s q writes (entry.Alone by p a true) t held k h = record { turn = sym k.free; version = ap (λ n. n + 1) k.version; reserved = k.reserved; waiters = inr k.waiters }
+moves_alone s q writes (entry.Alone by p a false) t held k h = record { turn = back s t held k; version = k.version; reserved = k.reserved; waiters = inr k.waiters }
+moves_alone s q writes (entry.Failed by None why) t held k h = record { turn = back s t held k; version = k.version; reserved = k.reserved; waiters = inr k.waiters }
 moves_alone s q writes e t held k h = absurd h
 
 moves_begin : (s : StreamNo) (next : ℕ) (e : Entry) (t held : Turns) → TookTurn s t held → MayBegin s next e → Moves s true e t (settled s e held)
-moves_begin s next (entry.Began u by) t held k h = record { turn = k.turn; version = k.version; reserved = k.reserved }
-moves_begin s next (entry.Failed by None why) t held k h = record { turn = back s t held k; version = k.version; reserved = k.reserved }
+moves_begin s next (entry.Began u by) t held k h = record { turn = k.turn; version = k.version; reserved = k.reserved; waiters = inr k.waiters }
+moves_begin s next (entry.Failed by None why) t held k h = record { turn = back s t held k; version = k.version; reserved = k.reserved; waiters = inr k.waiters }
 moves_begin s next e t held k h = absurd h
 
 -- a reader that was granted the turn isn't denied
@@ -58,11 +59,12 @@ not_denied seen s q u had (entry.Failed by v why) free current h = h.2
 moves_upgrade : (s : StreamNo) (q : BoundStmt) (u : ℕ) (writes : Bool) (e : Entry) (t held : Turns) → TookTurn s t held → is_write q.class ≡ true → MayRun s q u e → Moves s writes e t (settled s e held)
 moves_upgrade s q u writes (entry.Ran v p a) t held k w h =
     let is : is_write p.class ≡ true = ap (λ (x : BoundStmt). is_write x.class) h.1 ∙ w in
-    record { turn = k.turn ∙ sym (ap (λ b. cond b (Some s) t.turn) is); version = k.version; reserved = k.reserved }
+    record { turn = k.turn ∙ sym (ap (λ b. cond b (Some s) t.turn) is); version = k.version; reserved = k.reserved; waiters = inr k.waiters }
 moves_upgrade s q u writes (entry.Failed by (Some v) why) t held k w h = record {
   turn = ap (λ o. given_back o s) k.turn ∙ given_own s ∙ sym (ap (λ o. given_back o s) k.free);
   version = k.version;
   reserved = k.reserved;
+  waiters = inr k.waiters;
 }
 moves_upgrade s q u writes e t held k w h = absurd h
 
@@ -70,13 +72,13 @@ moves_upgrade s q u writes e t held k w h = absurd h
 
 moves_read : (s : StreamNo) (q : BoundStmt) (writes : Bool) (e : Entry) (t : Turns) → t.turn ≢ Some s → is_write q.class ≡ false → MayBeAlone s q e → Moves s writes e t (settled s e t)
 moves_read s q writes (entry.Alone by p a true) t ne r h = absurd (true_not_false (h.written ∙ rw r refl))
-moves_read s q writes (entry.Alone by p a false) t ne r h = record { turn = given_other t.turn s ne; version = refl; reserved = refl }
-moves_read s q writes (entry.Failed by None why) t ne r h = record { turn = given_other t.turn s ne; version = refl; reserved = refl }
+moves_read s q writes (entry.Alone by p a false) t ne r h = record { turn = given_other t.turn s ne; version = refl; reserved = refl; waiters = inl refl }
+moves_read s q writes (entry.Failed by None why) t ne r h = record { turn = given_other t.turn s ne; version = refl; reserved = refl; waiters = inl refl }
 moves_read s q writes e t ne r h = absurd h
 
 moves_begin_read : (s : StreamNo) (next : ℕ) (e : Entry) (t : Turns) → t.turn ≢ Some s → MayBegin s next e → Moves s false e t (settled s e t)
-moves_begin_read s next (entry.Began u by) t ne h = record { turn = refl; version = refl; reserved = refl }
-moves_begin_read s next (entry.Failed by None why) t ne h = record { turn = given_other t.turn s ne; version = refl; reserved = refl }
+moves_begin_read s next (entry.Began u by) t ne h = record { turn = refl; version = refl; reserved = refl; waiters = inl refl }
+moves_begin_read s next (entry.Failed by None why) t ne h = record { turn = given_other t.turn s ne; version = refl; reserved = refl; waiters = inl refl }
 moves_begin_read s next e t ne h = absurd h
 
 pub kept_turn : (s : StreamNo) (b : Bool) (o : Option StreamNo) → o ≡ Some s → o ≡ cond b (Some s) o
@@ -86,8 +88,8 @@ kept_turn s false o e = refl
 moves_ran : (s : StreamNo) (q : BoundStmt) (u : ℕ) (writes : Bool) (e : Entry) (t : Turns) → ((b : Bool) → is_write q.class ≡ b → t.turn ≡ cond b (Some s) t.turn) → MayRun s q u e → Moves s writes e t (settled s e t)
 moves_ran s q u writes (entry.Ran v p a) t keeps h =
     let same : is_write q.class ≡ is_write p.class = sym (ap (λ (x : BoundStmt). is_write x.class) h.1) in
-    record { turn = keeps (is_write p.class) same; version = refl; reserved = refl }
-moves_ran s q u writes (entry.Failed by (Some v) why) t keeps h = record { turn = refl; version = refl; reserved = refl }
+    record { turn = keeps (is_write p.class) same; version = refl; reserved = refl; waiters = inl refl }
+moves_ran s q u writes (entry.Failed by (Some v) why) t keeps h = record { turn = refl; version = refl; reserved = refl; waiters = inl refl }
 moves_ran s q u writes e t keeps h = absurd h
 
 pub reader_keeps : (s : StreamNo) (c : Class) (o : Option StreamNo) → c ≡ class.Read → (b : Bool) → is_write c ≡ b → o ≡ cond b (Some s) o
@@ -95,12 +97,12 @@ reader_keeps s c o r true e = absurd (true_not_false (sym e ∙ read_no_write c 
 reader_keeps s c o r false e = refl
 
 moves_commit : (s : StreamNo) (u : ℕ) (writes : Bool) (e : Entry) (t : Turns) → MayCommit s u e → Moves s writes e t (settled s e t)
-moves_commit s u writes (entry.Ended v how.Committed) t h = record { turn = refl; version = refl; reserved = refl }
-moves_commit s u writes (entry.Failed by (Some v) why) t h = record { turn = refl; version = refl; reserved = refl }
+moves_commit s u writes (entry.Ended v how.Committed) t h = record { turn = refl; version = refl; reserved = refl; waiters = inl refl }
+moves_commit s u writes (entry.Failed by (Some v) why) t h = record { turn = refl; version = refl; reserved = refl; waiters = inl refl }
 moves_commit s u writes e t h = absurd h
 
 moves_end_read : (s : StreamNo) (u : ℕ) (writes : Bool) (t : Turns) → t.turn ≢ Some s → Moves s writes (entry.Ended u how.Read) t (settled s (entry.Ended u how.Read) t)
-moves_end_read s u writes t ne = record { turn = given_other t.turn s ne; version = refl; reserved = refl }
+moves_end_read s u writes t ne = record { turn = given_other t.turn s ne; version = refl; reserved = refl; waiters = inl refl }
 
 -- the entry of a row, once the turn was asked for
 pub moves : {D : Type 0} (shared told : Bool) (db : D) (live : Lives D) (t : Turns) (s : StreamNo) (q : BoundStmt) (st : TxnState) (r : Row) (seen : Seen) (e : Entry)
@@ -118,9 +120,9 @@ moves shared told db live t s q (Reading u had) (row.Upgrade w began) seen e h a
 moves shared told db live t s q (Reading u had) (row.EndRead w) seen e h a took by v m =
     subst (λ (x : Entry). Moves s false x t (settled s x t)) (sym m) (moves_end_read s w false t a.turn)
 moves shared told db live t s q (Reading u had) (row.Undo w) seen e h a took by v m =
-    subst (λ (x : Entry). Moves s false x t (settled s x t)) (sym m) (record { turn = refl; version = refl; reserved = refl })
+    subst (λ (x : Entry). Moves s false x t (settled s x t)) (sym m) (record { turn = refl; version = refl; reserved = refl; waiters = inl refl })
 moves shared told db live t s q (Writing u) (row.Run w) seen e h a took by v m = moves_ran s q w false e t (λ b is. kept_turn s b t.turn a.turn) m
 moves shared told db live t s q (Writing u) (row.Commit w) seen e h a took by v m = moves_commit s w false e t m
 moves shared told db live t s q (Writing u) (row.Undo w) seen e h a took by v m =
-    subst (λ (x : Entry). Moves s false x t (settled s x t)) (sym m) (record { turn = refl; version = refl; reserved = refl })
+    subst (λ (x : Entry). Moves s false x t (settled s x t)) (sym m) (record { turn = refl; version = refl; reserved = refl; waiters = inl refl })
 moves shared told db live t s q st r seen e h a took by v m = absurd h

@@ -2,7 +2,7 @@
 use Rattle.std.proofs.Common.{◌≡◌, ◌≢◌, ◌≤◌, ◌<◌, ℕ, nat_lt, Option, Some, None, refl, sym, ap, ◌∙◌, subst, arith, inl, inr}
 use Rattle.std.proofs.lemmas.Bool.{cases_Bool, ltb-true, ltb-false}
 use Rattle.hrana_value.specs.declared.StreamNo.{StreamNo}
-use Rattle.txn_table.specs.Turns.{Turns, same_stream, now_or, grant_of, after_grant, given_back}
+use Rattle.txn_table.specs.Turns.{Turns, same_stream, now_or, grant_of, after_grant, given_back, without}
 use Rattle.txn_table.specs.declared.table.Need.TheVariants as need
 use Rattle.txn_table.specs.declared.table.Grant.{Grant}
 use Rattle.txn_table.specs.declared.table.Grant.TheVariants.{Now, Wait, Stale, Held as HeldBy}
@@ -47,6 +47,7 @@ pub record TookTurn (s : StreamNo) (t held : Turns) : Type 0 where
   pub turn : held.turn ≡ Some s
   pub version : held.version ≡ t.version
   pub reserved : held.reserved ≡ t.reserved
+  pub waiters : held.waiters ≡ without s t.waiters
 
 taken_free : (o : Option StreamNo) (v : ℕ) → turn_for (now_or Wait o v) ≡ Taken → o ≡ None
 taken_free None v e = refl
@@ -57,7 +58,7 @@ held_free None v e = refl
 held_free (Some h) v e = absurd (cc)
 
 granted_now : (s : StreamNo) (t : Turns) (g : Grant) → t.turn ≡ None → turn_for g ≡ Taken → TookTurn s t (after_grant t s g)
-granted_now s t (Now v) free e = record { free = free; turn = refl; version = refl; reserved = refl }
+granted_now s t (Now v) free e = record { free = free; turn = refl; version = refl; reserved = refl; waiters = refl }
 granted_now s t (Wait h) free e = absurd (cc)
 granted_now s t (Stale had now) free e = absurd (cc)
 granted_now s t (HeldBy h) free e = absurd (cc)

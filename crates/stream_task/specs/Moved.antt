@@ -1,7 +1,7 @@
 -- What an entry of a stream does to the table of turns, and what it says of the table and the engine before it.
 use Rattle.std.specs.Prelude.{◌≡◌, ◌≢◌, ◌+◌, ◌≤◌, ◌⊎◌, ℕ, Bool, true, false, cond, IsTrue, IsSome, Option, Some, None}
 use Rattle.hrana_value.specs.declared.StreamNo.{StreamNo}
-use Rattle.txn_table.specs.Turns.{Turns, queued, given_back, grant_of, after_grant, after_commit, after_end}
+use Rattle.txn_table.specs.Turns.{Turns, queued, without, given_back, grant_of, after_grant, after_commit, after_end}
 use Rattle.txn_table.specs.declared.table.Need.{Need}
 use Rattle.txn_table.specs.declared.table.Grant.{Grant}
 use Rattle.txn_table.specs.declared.table.Grant.TheVariants as grant
@@ -80,10 +80,15 @@ version_by added version = version
 abbrev pub waiting : StreamNo → Turns → Turns
 waiting stream t = record t { waiters = queued stream t.waiters }
 
--- what holds of the table where no entry was added: it is as it was, but that the stream may wait
+-- of those who wait nobody left but this stream
+abbrev pub WaitersStay : StreamNo → Turns → Turns → Type 0
+WaitersStay stream t t' = (t'.waiters ≡ t.waiters) ⊎ (t'.waiters ≡ without stream t.waiters)
+
+-- Where no entry was added the table is as it was, but that the stream may wait. A stream that adds an entry isn't told to wait, and
+-- nobody else is.
 abbrev pub Rests : StreamNo → Bool → Option Entry → Turns → Turns → Type 0
 Rests stream waits None t t' = t' ≡ cond waits (waiting stream t) t
-Rests stream waits (Some e) t t' = waits ≡ false
+Rests stream waits (Some e) t t' = (waits ≡ false) × WaitersStay stream t t'
 
 -- ---- what an entry says of what was before
 

@@ -1,0 +1,240 @@
+-- The end of a stream, and of many one after another.
+use Rattle.std.proofs.Common.{◌≡◌, ◌≤◌, ◌<◌, ◌+◌, ℕ, Bool, true, false, List, [], ◌∷◌, ◌++◌, length, take, drop, get_or, Option, None, Some, option_to_list, refl, sym, ap, ◌∙◌, subst, arith, append-nil, append_assoc, nat_cmp, IsTrue, is_some, true≢false, inl, inr}
+use Rattle.std.specs.Option.{IsSome}
+use Rattle.std.specs.List.{All}
+use Rattle.std.specs.List.Sorted.{IsStrictlySortedBy}
+use Rattle.std.specs.Map.{keys_of}
+use Rattle.std.proofs.lemmas.Bool.{cases_Bool, cases_eq}
+use Rattle.std.proofs.lemmas.List.Elements.{All-cons}
+use Rattle.std.proofs.lemmas.List.{at_drop_more}
+use Rattle.serial_order.specs.Serial.{Meaning}
+use Rattle.hrana_value.specs.declared.StreamNo.{StreamNo}
+use Rattle.http_wire.specs.declared.outs.Outs.{Outs}
+use Rattle.txn_table.specs.Turns.{Turns, has, after_loss}
+use Rattle.engine_core.specs.Transactions.{Lives}
+use Rattle.engine_core.specs.declared.statement.BoundStmt.{BoundStmt}
+use Rattle.engine_core.specs.declared.entries.Answer.{Answer}
+use Rattle.engine_core.specs.declared.entries.Entry.{Entry}
+use Rattle.engine_core.specs.declared.entries.Undo.{Undo}
+use Rattle.engine_core.specs.declared.entries.Undo.TheVariants as undo
+use Rattle.stream_task.specs.Adds.{undone_of, next_by}
+use Rattle.stream_task.specs.Leads.{EndsLead}
+use Rattle.stream_task.specs.Moved.{version_by, Rests}
+use Rattle.stream_task.specs.Session.{open_of}
+use Rattle.stream_task.specs.Together.{AgreesAt, Put, HasEnded, EndsTogether, EachMayPoll, MayPoll, numbered}
+use Rattle.stream_task.specs.declared.session.TxnState.{TxnState}
+use Rattle.stream_task.specs.declared.session.TxnState.TheVariants.{Auto, Deferred, Reading, Writing, Dead, Closed}
+use Rattle.hrana_hub.specs.Maps.{Numbered, at, without}
+use Rattle.hrana_hub.specs.State.{Conn, Stream, State, Seen, states_of, state_in}
+use Rattle.hrana_hub.specs.Adds.{Adds, LeadsOn}
+use Rattle.hrana_hub.specs.Agrees.{HubAgrees, open_units, HubStands}
+use Rattle.hrana_hub.specs.Ended.{end_of, ends_of, let_go, without_conn, all_ends, at_its_end, HasLeft, IsGone, Frees}
+use Rattle.hrana_hub.specs.Arrivals.{nothing}
+use Rattle.hrana_hub.specs.Polled.{with_streams}
+use Rattle.hrana_hub.specs.Step.{LostAt}
+use Rattle.hrana_hub.proofs.Adding.{adds_one}
+use Rattle.hrana_hub.proofs.EntryLemmas.{at_first, without_first, without_unknown, at_without, at_without_other, rising_without}
+use Rattle.hrana_hub.proofs.Waiting.{has_gone, waiters_without}
+use Rattle.hrana_hub.proofs.Agreeing.{without_states, numbers_without, units_without}
+
+-- ---- the stream that stands at a number
+
+-- it is the stream of this number
+pub number_of : {D : Type 0} (told shared : Bool) (db : D) (live : Lives D) (h : Seen) (n : ℕ) (x : Stream) → HubAgrees told shared db live h → at n h.state.streams ≡ Some x → x.task.stream.0 ≡ n
+number_of told shared db live h n x a e = ap (λ (s : StreamNo). s.0) (a.numbers.own n x e)
+
+pub state_at : {D : Type 0} (told shared : Bool) (db : D) (live : Lives D) (h : Seen) (n : ℕ) (x : Stream) → HubAgrees told shared db live h → at n h.state.streams ≡ Some x → states_of h.state.streams x.task.stream.0 ≡ Some x.task.session.state
+state_at told shared db live h n x a e = ap (states_of h.state.streams) (number_of told shared db live h n x a e) ∙ ap state_in e
+
+-- it may be polled, and ended
+pub may_poll : {D : Type 0} (told shared : Bool) (db : D) (live : Lives D) (h : Seen) (n : ℕ) (x : Stream) → EachMayPoll D told shared → HubAgrees told shared db live h → at n h.state.streams ≡ Some x → MayPoll told shared db live h.turns h.noted.next x.task.stream x.task.session.state
+may_poll told shared db live h n x each a e = each db live h.turns h.noted.next (states_of h.state.streams) x.task.stream x.task.session.state a.together (state_at told shared db live h n x a e)
+
+-- there is a place for the entry of its end
+pub end_room : {D : Type 0} (told shared : Bool) (db : D) (live : Lives D) (h : Seen) (n : ℕ) (x : Stream) → HubAgrees told shared db live h → at n h.state.streams ≡ Some x → open_of x.task.session.state ≤ h.noted.spare
+end_room told shared db live h n x a e = omega (arith, units_without n x h.state.streams e, a.places)
+
+-- ---- an entry that ends a unit
+
+next_undone : (why : Undo) (state : TxnState) (n : ℕ) → next_by n (undone_of why state) ≡ n
+next_undone why (Reading unit had) n = refl
+next_undone why (Writing unit) n = refl
+next_undone why Auto n = refl
+next_undone why Deferred n = refl
+next_undone why (Dead cause) n = refl
+next_undone why Closed n = refl
+
+version_undone : (why : Undo) (state : TxnState) (v : ℕ) → version_by (undone_of why state) v ≡ v
+version_undone why (Reading unit had) v = refl
+version_undone why (Writing unit) v = refl
+version_undone why Auto v = refl
+version_undone why Deferred v = refl
+version_undone why (Dead cause) v = refl
+version_undone why Closed v = refl
+
+-- ---- one end
+
+-- what the end of the stream at a number did
+pub record EndDid {X D : Type 0} (told shared : Bool) (m : Meaning D BoundStmt Answer) (db : X → D) (live : X → Lives D) (faults : X → ℕ) (engine engine' : X) (why : Undo) (n : ℕ) (x : Stream) (old new : Seen) : Type 0 where
+  pub agrees : HubAgrees told shared (db engine) (live engine) old
+  pub known : at n old.state.streams ≡ Some x
+  pub ended : HasEnded told shared m db live faults engine engine' old.turns new.turns old.noted new.noted x.task why
+  pub spare : new.noted.spare + open_of x.task.session.state ≡ old.noted.spare
+  pub conns : new.state.conns ≡ old.state.conns
+  pub streams : new.state.streams ≡ without n old.state.streams
+  pub opened : new.state.opened ≡ old.state.opened
+  pub next : new.state.next ≡ new.noted.next
+  pub version : new.state.version ≡ new.turns.version
+  pub events : new.state.events ≡ old.state.events
+  pub stopped : new.state.stopped ≡ old.state.stopped
+
+module _ {X D : Type 0} (told shared : Bool) (m : Meaning D BoundStmt Answer) (db : X → D) (live : X → Lives D) (faults : X → ℕ) (engine engine' : X) (why : Undo) (n : ℕ) (x : Stream) (old new : Seen) (did : EndDid told shared m db live faults engine engine' why n x old new) where
+  same_next : new.noted.next ≡ old.noted.next
+  same_next = did.ended.ends.adds.next ∙ ap (next_by old.noted.next) did.ended.ends.adds.holds ∙ next_undone why x.task.session.state old.noted.next
+
+  same_version : new.turns.version ≡ old.turns.version
+  same_version =
+      let a = did.ended.ends.adds in
+      ap (λ (t : Turns). t.version) did.ended.ends.lost ∙ a.moved.version ∙ ap (λ e. version_by e old.turns.version) a.holds ∙ version_undone why x.task.session.state old.turns.version
+
+  -- the states of the streams, without that of its number
+  states_left : Put (states_of old.state.streams) (states_of new.state.streams) x.task.stream.0 None
+  states_left =
+      let put : Put (states_of old.state.streams) (states_of new.state.streams) n None = subst (λ es. Put (states_of old.state.streams) (states_of es) n None) (sym did.streams) (without_states n old.state.streams did.agrees.numbers.rising) in
+      subst (λ k. Put (states_of old.state.streams) (states_of new.state.streams) k None) (sym (number_of told shared (db engine) (live engine) old n x did.agrees did.known)) put
+
+  its_state : states_of old.state.streams x.task.stream.0 ≡ Some x.task.session.state
+  its_state = state_at told shared (db engine) (live engine) old n x did.agrees did.known
+
+  pub end_agrees : EndsTogether told shared m db live faults → HubAgrees told shared (db engine') (live engine') new
+  end_agrees law =
+      let h = did.agrees in
+      let ends = did.ended.ends in
+      let own = h.numbers.own n x did.known in
+      record {
+        together = law engine engine' old.turns new.turns old.noted new.noted x.task why None (states_of old.state.streams) (states_of new.state.streams) h.together its_state did.ended refl states_left;
+        waiters = λ k w. subst (λ es. IsSome (at k es)) (sym did.streams)
+            (waiters_without n old.state.streams ends.adds.added old.turns ends.between new.turns h.numbers.rising (subst (λ s. Rests s false ends.adds.added old.turns ends.between) own ends.adds.moved.rests) (ends.lost ∙ ap (after_loss ends.between) own) h.waiters k w);
+        numbers = numbers_without old.state new.state n did.streams did.opened h.numbers;
+        version = did.version;
+        next = did.next;
+        places = (let units = units_without n x old.state.streams did.known in let left = ap open_units did.streams in omega (arith, units, left, did.spare, h.places));
+        counts = record {
+          streams = omega (arith, did.opened, did.events, h.counts.streams);
+          units = (let e : new.state.next ≡ old.state.next = did.next ∙ same_next ∙ sym h.next in omega (arith, e, did.events, h.counts.units));
+          commits = (let e : new.state.version ≡ old.state.version = did.version ∙ same_version ∙ sym h.version in omega (arith, e, did.events, h.counts.commits));
+        };
+      }
+
+  end_leads : EndsLead told shared m db live faults → IsTrue told → LeadsOn shared m (db engine) (live engine) (db engine') (live engine') old new (option_to_list did.ended.ends.adds.added)
+  end_leads law sure first journal h =
+      subst (λ e. HubStands shared m first (journal ++ option_to_list e) (db engine') (live engine') new) (sym did.ended.ends.adds.holds)
+      (law engine engine' old.turns new.turns old.noted new.noted x.task why None (states_of old.state.streams) (states_of new.state.streams) sure did.agrees.together its_state did.ended refl states_left first journal h)
+
+  pub end_adds : EndsLead told shared m db live faults → Adds told shared m db live faults engine engine' old new (λ added. added ≡ end_of why (at n old.state.streams))
+  end_adds law = adds_one x.task.stream engine engine' old.turns did.ended.ends.between old new false _ _ did.ended.ends.adds (end_leads law) (ap option_to_list did.ended.ends.adds.holds ∙ ap (end_of why) (sym did.known))
+
+  pub end_leaves : HubAgrees told shared (db engine') (live engine') new → HasLeft new.turns (numbered n)
+  end_leaves after =
+      let lost : new.turns ≡ after_loss did.ended.ends.between (numbered n) = did.ended.ends.lost ∙ ap (after_loss did.ended.ends.between) (did.agrees.numbers.own n x did.known) in
+      record {
+        turn = (let none : states_of new.state.streams n ≡ None = ap (λ es. states_of es n) did.streams ∙ (without_states n old.state.streams did.agrees.numbers.rising).here in subst (λ o. AgreesAt told (db engine') (live engine') new.turns n o) none (after.together.agree n));
+        waits = ap (λ (t : Turns). has (numbered n) t.waiters) lost ∙ has_gone (numbered n) did.ended.ends.between.waiters;
+        place = ap (λ (t : Turns). has (numbered n) t.reserved) lost ∙ has_gone (numbered n) did.ended.ends.between.reserved;
+      }
+
+-- ---- the first of all
+
+pub at_head : (e : ℕ × Stream) (es rest : Numbered Stream) → es ≡ e ∷ rest → at e.0 es ≡ Some e.1
+at_head e es rest is = ap (at e.0) is ∙ at_first e rest
+
+pub without_head : (e : ℕ × Stream) (es rest : Numbered Stream) → es ≡ e ∷ rest → rest ≡ without e.0 es
+without_head e es rest is = sym (ap (without e.0) is ∙ without_first e rest)
+
+pub end_of_head : (why : Undo) (e : ℕ × Stream) (es rest : Numbered Stream) → es ≡ e ∷ rest → end_of why (at e.0 es) ≡ all_ends why (take 1 es)
+end_of_head why e es rest is = ap (end_of why) (at_head e es rest is) ∙ sym (ap (λ l. all_ends why (take 1 l)) is ∙ append-nil (end_of why (Some e.1)))
+
+pub none_first : (es : Numbered Stream) → (0 < length es → ⊥) → es ≡ []
+none_first [] never = refl
+none_first (e ∷ es) never = absurd (never (omega arith))
+
+-- ---- one after another
+
+pub first_ends : (why : Undo) (es : Numbered Stream) → all_ends why es ≡ all_ends why (take 1 es) ++ all_ends why (drop 1 es)
+first_ends why [] = refl
+first_ends why (e ∷ es) = ap (λ l. l ++ all_ends why es) (sym (append-nil (end_of why (Some e.1))))
+
+-- the entries so far, and those of the ends that are left, where the first of all is next
+pub ends_on : (why : Undo) (all done one : List Entry) (es : Numbered Stream) → all ≡ done ++ all_ends why es → one ≡ all_ends why (take 1 es) → all ≡ (done ++ one) ++ all_ends why (drop 1 es)
+ends_on why all done one es e f = e ∙ ap (λ l. done ++ l) (first_ends why es ∙ ap (λ l. l ++ all_ends why (drop 1 es)) (sym f)) ∙ sym (append_assoc done one (all_ends why (drop 1 es)))
+
+-- the entries so far, and those of the ends that are left
+pub ends_more : (why : Undo) (numbers : List ℕ) (i : ℕ) (all done one : List Entry) (es rest : Numbered Stream) → i < length numbers → rest ≡ without (get_or numbers i 0) es → all ≡ done ++ ends_of why (drop i numbers) es → one ≡ end_of why (at (get_or numbers i 0) es)
+    → all ≡ (done ++ one) ++ ends_of why (drop (i + 1) numbers) rest
+ends_more why numbers i all done one es rest l is e f =
+    e ∙ ap (λ l. done ++ l)
+    (at_drop_more (λ ns. ends_of why ns es) numbers i 0 l ∙ ap (λ l. l ++ ends_of why (drop (i + 1) numbers) (without (get_or numbers i 0) es)) (sym f) ∙ ap (λ l. one ++ ends_of why (drop (i + 1) numbers) l) (sym is))
+    ∙ sym (append_assoc done one (ends_of why (drop (i + 1) numbers) rest))
+
+pub gone_more : (numbers : List ℕ) (i : ℕ) (all es rest : Numbered Stream) → i < length numbers → rest ≡ without (get_or numbers i 0) es → all ≡ let_go (drop i numbers) es → all ≡ let_go (drop (i + 1) numbers) rest
+gone_more numbers i all es rest l is e = e ∙ at_drop_more (λ ns. let_go ns es) numbers i 0 l ∙ ap (let_go (drop (i + 1) numbers)) (sym is)
+
+-- ---- a connection that isn't known
+
+pub lost_unknown : (s : State) (c : ℕ) (conns : Numbered Conn) (out : Outs) → at c s.conns ≡ None → conns ≡ without c s.conns → out ≡ nothing
+    → LostAt s c (at c s.conns) [] out (record { conns = conns; streams = s.streams; opened = s.opened; next = s.next; version = s.version; events = s.events; stopped = s.stopped })
+lost_unknown s c conns out unknown is given =
+    let same : conns ≡ s.conns = is ∙ without_unknown c s.conns unknown in
+    subst (λ o. LostAt s c o [] out (record { conns = conns; streams = s.streams; opened = s.opened; next = s.next; version = s.version; events = s.events; stopped = s.stopped })) (sym unknown)
+    (record { none = refl; given = given; left = ap (λ x. record { conns = x; streams = s.streams; opened = s.opened; next = s.next; version = s.version; events = s.events; stopped = s.stopped }) same })
+
+-- ---- a connection that is lost
+
+abbrev pub with_conns : Numbered Conn → State → State
+with_conns conns s = record { conns = conns; streams = s.streams; opened = s.opened; next = s.next; version = s.version; events = s.events; stopped = s.stopped }
+
+pub lost_leaves : (c : ℕ) (k : Conn) (numbers : List ℕ) (conns : Numbered Conn) (h old : Seen) (new : State) → h ≡ old → numbers ≡ k.streams → conns ≡ without c h.state.conns
+    → new ≡ with_streams (let_go numbers h.state.streams) (with_conns conns h.state) → new ≡ without_conn c k old.state
+lost_leaves c k numbers conns h old new is streams rest left =
+    left ∙ ap (λ ns. with_streams (let_go ns h.state.streams) (with_conns conns h.state)) streams ∙ ap (λ cs. with_streams (let_go k.streams h.state.streams) (with_conns cs h.state)) rest ∙ ap (λ (x : Seen). without_conn c k x.state) is
+
+pub lost_known : (s : State) (c : ℕ) (k : Conn) (added : List Entry) (out : Outs) (new : State) → at c s.conns ≡ Some k → added ≡ ends_of undo.Lost k.streams s.streams → out ≡ nothing → new ≡ without_conn c k s → LostAt s c (at c s.conns) added out new
+lost_known s c k added out new known ends given left = subst (λ o. LostAt s c o added out new) (sym known) (ends, given, left)
+
+-- ---- the end of all
+
+abbrev pub stopped_with : Numbered Conn → State → State
+stopped_with conns s = record { conns = conns; streams = s.streams; opened = s.opened; next = s.next; version = s.version; events = s.events; stopped = true }
+
+pub stop_leaves : (conns : Numbered Conn) (s old : State) → conns ≡ [] → s ≡ with_streams [] old → stopped_with conns s ≡ at_its_end old
+stop_leaves conns s old none left = ap (λ cs. stopped_with cs s) none ∙ ap (stopped_with []) left
+
+-- ---- what a loss frees
+
+still_gone : (numbers : List ℕ) (k : ℕ) (es : Numbered Stream) → IsStrictlySortedBy nat_cmp (keys_of es) → at k es ≡ None → at k (let_go numbers es) ≡ None
+still_gone [] k es r e = e
+still_gone (n ∷ numbers) k es r e = still_gone numbers k (without n es) (rising_without n es r) (elim (cases_eq k n) [
+  | inl i ↦ ap (λ j. at j (without n es)) i ∙ at_without n es r
+  | inr ne ↦ at_without_other n k es r ne ∙ e
+])
+
+none_left : (numbers : List ℕ) (es : Numbered Stream) → IsStrictlySortedBy nat_cmp (keys_of es) → All (λ (n : ℕ). at n (let_go numbers es) ≡ None) numbers
+none_left [] es r = λ k d lt. absurd (omega arith)
+none_left (n ∷ numbers) es r =
+    All-cons (λ (k : ℕ). at k (let_go numbers (without n es)) ≡ None) n numbers (still_gone numbers n (without n es) (rising_without n es r) (at_without n es r)) (none_left numbers (without n es) (rising_without n es r))
+
+pub gone : {D : Type 0} (told shared : Bool) (db : D) (live : Lives D) (h : Seen) (n : ℕ) → HubAgrees told shared db live h → at n h.state.streams ≡ None → IsGone h n
+gone told shared db live h n a none = record {
+  stream = none;
+  turn = subst (λ o. AgreesAt told db live h.turns n o) (ap state_in none) (a.together.agree n);
+  waits = elim (cases_Bool (has (numbered n) h.turns.waiters)) [
+    | inl e ↦ absurd (true≢false (sym (a.waiters n e) ∙ ap is_some none))
+    | inr e ↦ e
+  ];
+}
+
+-- the streams of the connection are gone, and so is the connection
+pub lost_frees : {D : Type 0} (told shared : Bool) (db : D) (live : Lives D) (c : ℕ) (o : Option Conn) (k : Conn) (es : Numbered Stream) (new : Seen) → o ≡ Some k → IsStrictlySortedBy nat_cmp (keys_of es)
+    → HubAgrees told shared db live new → new.state.streams ≡ let_go k.streams es → at c new.state.conns ≡ None → Frees c o new
+lost_frees told shared db live c o k es new known r a left none =
+    subst (λ o. Frees c o new) (sym known) (none, λ i d lt. gone told shared db live new _ a (ap (at _) left ∙ none_left k.streams es r i d lt))

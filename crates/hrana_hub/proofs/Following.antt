@@ -1,0 +1,218 @@
+-- In every run the replies of each stream are those of its requests, in their order.
+use Rattle.std.proofs.Common.{◌≡◌, ◌≢◌, ◌≤◌, ◌<◌, ◌+◌, ℕ, ℤ, Bool, true, false, cond, nat_eq, List, [], ◌∷◌, All, Option, None, Some, option_to_list, refl, sym, ap, ◌∙◌, subst, arith, inl, inr, eq-eqb, ne_eqb}
+use Rattle.std.proofs.lemmas.Bool.{cases_eq, true≢false}
+use Rattle.hrana_value.specs.declared.StreamNo.{StreamNo}
+use Rattle.stream_requests.specs.declared.asks.Ask.{Ask}
+use Rattle.http_wire.specs.declared.outs.Outs.{Outs}
+use Rattle.engine_core.specs.declared.entries.Entry.{Entry}
+use Rattle.stream_task.specs.Doing.{work_of}
+use Rattle.stream_task.specs.Laws.{TaskMeans}
+use Rattle.stream_task.specs.Polls.{is_waiting}
+use Rattle.hrana_hub.specs.declared.events.Event.{Event}
+use Rattle.hrana_hub.specs.declared.events.Event.TheVariants as event
+use Rattle.hrana_hub.specs.Maps.{at, put}
+use Rattle.hrana_hub.specs.State.{Conn, Stream, State}
+use Rattle.hrana_hub.specs.Arrivals.{fresh, joined, waiting, waited, with_conn, with_stream, with_request, is_close, shut}
+use Rattle.hrana_hub.specs.Ended.{without_conn, at_its_end}
+use Rattle.hrana_hub.specs.Polled.{Polled, PollFell, reply_in, is_over, polled, streams_left, replied, dropped}
+use Rattle.hrana_hub.specs.Run.{Run, start, more}
+use Rattle.hrana_hub.specs.Step.{counted, new_conn, with_new_conn}
+use Rattle.hrana_hub.specs.Stories.{Story, no_story, story, told_on, text_in, BeganAt, AreVersions, Tells, IsHeard, InOrder, RepliesInOrder}
+use Rattle.hrana_hub.proofs.Changes.{Change, rests, comes, marks, joins, asks_for, polls, falls, loses, ends, IsOpen, IsSilent, step_changes}
+use Rattle.hrana_hub.proofs.EntryLemmas.{at_put, at_put_other, at_without, at_without_other}
+use Rattle.hrana_hub.proofs.Kept.{Kept, counted_kept, run_kept}
+use Rattle.hrana_hub.proofs.Listed.{put_cases, placed_cases, without_cases, let_go_cases}
+use Rattle.hrana_hub.proofs.MapLemmas.{none_some, some_one, at_placed, at_placed_other}
+use Rattle.hrana_hub.proofs.Paired.{EachPairs, run_paired}
+use Rattle.hrana_hub.proofs.Telling.{extended, told_is, told_same, drop_behind, ids_none, asks_none, used_none, tells_front, none_front, more_front, asked_front, fresh_tells, asked_tells, polled_tells}
+
+-- what is kept of the story of a number: it is empty until a stream has the number
+record Follows (shared : Bool) (had : ℕ → ℕ) (n : ℕ) (t : Story) (s : State) : Type 0 where
+  fresh : s.opened < n → t ≡ no_story
+  order : InOrder shared had t s n
+
+module _ (shared : Bool) (had : ℕ → ℕ) (n : ℕ) where
+  -- the story stays, and a stream that is there and heard was so before
+  stays : (t t' : Story) (s new : State) → t' ≡ t → s.opened ≤ new.opened → ((x : Stream) → at n new.streams ≡ Some x → at n s.streams ≡ Some x) → ((x : Stream) → at n s.streams ≡ Some x → IsHeard new x → IsHeard s x) → Follows shared had n t s → Follows shared had n t' new
+  stays t t' s new same rises there heard h = subst (λ u. Follows shared had n u new) (sym same) (record {
+    fresh = λ l. h.fresh (omega (arith, l, rises));
+    order = record { whole = λ x e i. h.order.whole x (there x e) (heard x (there x e) i); front = h.order.front };
+  })
+
+-- ---- who is heard
+
+-- a connection that was heard has become another
+heard_put : (s new : State) (c : ℕ) (k k' : Conn) → IsOpen s c k → new.conns ≡ put c k' s.conns → (x : Stream) → IsHeard new x → IsHeard s x
+heard_put s new c k k' o is x i = elim (put_cases c x.conn k k' i.k s.conns o.known (ap (λ es. at x.conn es) (sym is) ∙ i.known)) [
+  | inl own ↦ record { k = k; known = ap (λ d. at d s.conns) own.0 ∙ o.known; unshut = o.heard }
+  | inr other ↦ record { k = i.k; known = other.1; unshut = i.unshut }
+]
+
+-- it was closed, so it is another one that is heard
+shut_put : (s new : State) (c : ℕ) (k k' : Conn) → IsOpen s c k → k'.closing ≡ true → new.conns ≡ put c k' s.conns → (x : Stream) → IsHeard new x → x.conn ≢ c
+shut_put s new c k k' o closed is x i = elim (put_cases c x.conn k k' i.k s.conns o.known (ap (λ es. at x.conn es) (sym is) ∙ i.known)) [
+  | inl own ↦ absurd (true≢false (sym closed ∙ ap (λ (l : Conn). l.closing) (sym own.1) ∙ i.unshut))
+  | inr other ↦ other.0
+]
+
+-- ---- one change
+
+module _ (law : TaskMeans) (shared : Bool) (had : ℕ → ℕ) (n : ℕ) (t : Story) (s : State) (kept : Kept s) (pairs : EachPairs s.streams) (h : Follows shared had n t s) where
+  abbrev Goes : Event → List Entry → Outs → State → Type 0
+  Goes event added out new = Follows shared had n (told_on n t event s added out new) new
+
+  -- nothing of the stream changed
+  quiet_follows : (event : Event) (added : List Entry) (out : Outs) (new : State) → added ≡ [] → IsSilent event out → at n new.streams ≡ at n s.streams → s.opened ≤ new.opened → ((x : Stream) → at n s.streams ≡ Some x → IsHeard new x → IsHeard s x) → Goes event added out new
+  quiet_follows event added out new none silent same rises heard =
+      stays shared had n t _ s new (told_same n t event s added out new (ids_none n event s new same) (asks_none n event s new same) (used_none n event added none) (silent n)) rises (λ x e. sym same ∙ e) heard h
+
+  comes_follows : (c : ℕ) (closing : Bool) (added : List Entry) (out : Outs) → at c s.conns ≡ None → Goes (event.Opened c) added out (with_new_conn c closing s)
+  comes_follows c closing added out none = stays shared had n t _ s (with_new_conn c closing s) (told_same n t (event.Opened c) s added out (with_new_conn c closing s) refl refl refl refl) (omega arith) (λ x e. e)
+      (λ x e i. (let its = kept.stream n x e in elim (placed_cases c x.conn (new_conn closing) i.k s.conns i.known) [
+        | inl own ↦ absurd (none_some (sym none ∙ ap (λ d. at d s.conns) (sym own.0) ∙ its.known))
+        | inr other ↦ record { k = i.k; known = other.1; unshut = i.unshut }
+      ])) h
+
+  joins_follows : (c : ℕ) (text : List ℕ) (k : Conn) (id : ℤ) (added : List Entry) (out : Outs) → added ≡ [] → IsOpen s c k → Goes (event.Text c text) added out (with_stream c k id s)
+  joins_follows c text k id added out none o = elim (cases_eq n (s.opened + 1)) [
+    | inl own ↦
+        (let new = with_stream c k id s in
+        let y = fresh c (s.opened + 1) in
+        let before : at n s.streams ≡ None = kept.above n (omega (arith, own)) in
+        let now : at n new.streams ≡ Some y = ap (λ m. at m new.streams) own ∙ at_placed (s.opened + 1) y s.streams in
+        let first : t ≡ no_story = h.fresh (omega (arith, own)) in
+        let same : told_on n t (event.Text c text) s added out new ≡ no_story = told_same n t (event.Text c text) s added out new (rw (before, now) refl) (rw (before, now) refl) refl refl ∙ first in
+        subst (λ u. Follows shared had n u new) (sym same) (record {
+          fresh = λ l. refl;
+          order = record { whole = λ x e i. subst (λ z. Tells shared had no_story z) (some_one (sym now ∙ e)) (fresh_tells shared had c (s.opened + 1)); front = none_front shared had };
+        }))
+    | inr other ↦ quiet_follows (event.Text c text) added out (with_stream c k id s) none (λ m. refl) (at_placed_other (s.opened + 1) n (fresh c (s.opened + 1)) s.streams other) (omega arith)
+        (λ x e i. heard_put s (with_stream c k id s) c k (joined id (s.opened + 1) k) o refl x i)
+  ]
+
+  asks_follows : (c : ℕ) (text : List ℕ) (k : Conn) (stream : ℤ) (m : ℕ) (x : Stream) (id : ℤ) (what : Ask) (added : List Entry) (out : Outs) → added ≡ [] → IsOpen s c k → at m s.streams ≡ Some x → Goes (event.Text c text) added out (with_request c k stream m x id what s)
+  asks_follows c text k stream m x id what added out none o known = elim (cases_eq n m) [
+    | inl own ↦
+        (let new = with_request c k stream m x id what s in
+        let y = waiting id what x in
+        let before : at n s.streams ≡ Some x = ap (λ j. at j s.streams) own ∙ known in
+        let now : at n new.streams ≡ Some y = ap (λ j. at j new.streams) own ∙ at_put m x y s.streams known in
+        let told : told_on n t (event.Text c text) s added out new ≡ extended t (id ∷ []) (option_to_list (work_of what)) [] [] = told_is n t (event.Text c text) s added out new (id ∷ []) (option_to_list (work_of what)) [] [] (rw (before, now) (drop_behind x.waits (id ∷ []))) (rw (before, now) (drop_behind x.task.asks (option_to_list (work_of what)))) refl refl in
+        let was : IsHeard new x → Tells shared had t x = λ i. h.order.whole x before (heard_put s new c k (waited stream (is_close what) k) o refl x i) in
+        subst (λ u. Follows shared had n u new) (sym told) (record {
+          fresh = λ l. absurd (none_some (sym (kept.above n l) ∙ before));
+          order = record { whole = λ z e i. subst (λ z. IsHeard new z → Tells shared had (extended t (id ∷ []) (option_to_list (work_of what)) [] []) z) (some_one (sym now ∙ e)) (λ j. asked_tells shared had t x id what (was (record { k = j.k; known = j.known; unshut = j.unshut }))) i; front = asked_front shared had t (id ∷ []) (option_to_list (work_of what)) h.order.front };
+        }))
+    | inr other ↦ quiet_follows (event.Text c text) added out (with_request c k stream m x id what s) none (λ j. refl) (at_put_other m n x (waiting id what x) s.streams known other) (omega arith)
+        (λ z e i. heard_put s (with_request c k stream m x id what s) c k (waited stream (is_close what) k) o refl z i)
+  ]
+
+  -- ---- a poll
+
+  other_poll : (stream : StreamNo) (added : List Entry) (out : Outs) (new : State) → n ≢ stream.0 → at n new.streams ≡ at n s.streams → s.opened ≤ new.opened → ((x : Stream) → at n s.streams ≡ Some x → IsHeard new x → IsHeard s x) → Goes (event.Poll stream) added out new
+  other_poll stream added out new other same rises heard =
+      let off : nat_eq stream.0 n ≡ false = ne_eqb stream.0 n (λ e. other (sym e)) in
+      stays shared had n t _ s new (told_same n t (event.Poll stream) s added out new refl refl (ap (λ b. cond b added []) off) (ap (λ b. cond b (text_in out.out) []) off)) rises (λ x e. sym same ∙ e) heard h
+
+  own_poll : (stream : StreamNo) (added : List Entry) (out : Outs) (new : State) → n ≡ stream.0 → told_on n t (event.Poll stream) s added out new ≡ extended t [] [] added (text_in out.out)
+  own_poll stream added out new own =
+      let on : nat_eq stream.0 n ≡ true = eq-eqb stream.0 n (sym own) in
+      told_is n t (event.Poll stream) s added out new [] [] added (text_in out.out) refl refl (ap (λ b. cond b added []) on) (ap (λ b. cond b (text_in out.out) []) on)
+
+  left_at : (over : Bool) (m : ℕ) (x y : Stream) → at m s.streams ≡ Some x → n ≢ m → at n (streams_left over m y s.streams) ≡ at n s.streams
+  left_at true m x y known other = at_without_other m n s.streams kept.streams_rise other
+  left_at false m x y known other = at_put_other m n x y s.streams known other
+
+  left_own : (over : Bool) (m : ℕ) (x y z : Stream) → at m s.streams ≡ Some x → at m (streams_left over m y s.streams) ≡ Some z → y ≡ z
+  left_own true m x y z known e = absurd (none_some (sym (at_without m s.streams kept.streams_rise) ∙ e))
+  left_own false m x y z known e = some_one (sym (at_put m x y s.streams known) ∙ e)
+
+  polls_follow : (stream : StreamNo) (x : Stream) (k : Conn) (added : List Entry) (out : Outs) (new : State) → at stream.0 s.streams ≡ Some x → is_waiting x.task.asks ≡ true → IsOpen s x.conn k → All (BeganAt had s.version) added → Polled shared s stream.0 x.conn x k added out new → Goes (event.Poll stream) added out new
+  polls_follow stream x k added out new known waits o began p =
+      let reply = reply_in p.result in
+      let over = is_over reply p.task in
+      let y = polled reply p.task x in
+      let conns : new.conns ≡ put x.conn (replied stream.0 over reply k) s.conns = ap (λ (u : State). u.conns) p.left in
+      let streams : new.streams ≡ streams_left over stream.0 y s.streams = ap (λ (u : State). u.streams) p.left in
+      let opened : new.opened ≡ s.opened = ap (λ (u : State). u.opened) p.left in
+      elim (cases_eq n stream.0) [
+        | inl own ↦
+            (let before : at n s.streams ≡ Some x = ap (λ j. at j s.streams) own ∙ known in
+            let was : Tells shared had t x = h.order.whole x before (record { k = k; known = o.known; unshut = o.heard }) in
+            let now : Tells shared had (extended t [] [] added (text_in out.out)) y = polled_tells law shared had s stream.0 x k added out new t waits (pairs stream.0 x known) began p was in
+            subst (λ u. Follows shared had n u new) (sym (own_poll stream added out new own)) (record {
+              fresh = λ l. absurd (none_some (sym (kept.above n (omega (arith, l, opened))) ∙ before));
+              order = record {
+                whole = λ z e i. subst (λ z. Tells shared had (extended t [] [] added (text_in out.out)) z) (left_own over stream.0 x y z known (ap (λ es. at stream.0 es) (sym streams) ∙ ap (λ j. at j new.streams) (sym own) ∙ e)) now;
+                front = tells_front shared had (extended t [] [] added (text_in out.out)) y now;
+              };
+            }))
+        | inr other ↦ other_poll stream added out new other (ap (λ es. at n es) streams ∙ left_at over stream.0 x y known other) (omega (arith, opened)) (λ z e i. heard_put s new x.conn k (replied stream.0 over reply k) o conns z i)
+      ]
+
+  falls_follow : (stream : StreamNo) (x : Stream) (k : Conn) (added : List Entry) (out : Outs) (new : State) → at stream.0 s.streams ≡ Some x → IsOpen s x.conn k → PollFell shared s stream.0 x.conn x k added out new → Goes (event.Poll stream) added out new
+  falls_follow stream x k added out new known o p =
+      let y = dropped p.task x in
+      let conns : new.conns ≡ put x.conn (shut k) s.conns = ap (λ (u : State). u.conns) p.left in
+      let streams : new.streams ≡ put stream.0 y s.streams = ap (λ (u : State). u.streams) p.left in
+      let opened : new.opened ≡ s.opened = ap (λ (u : State). u.opened) p.left in
+      elim (cases_eq n stream.0) [
+        | inl own ↦
+            (let before : at n s.streams ≡ Some x = ap (λ j. at j s.streams) own ∙ known in
+            let now : at n new.streams ≡ Some y = ap (λ es. at n es) streams ∙ ap (λ j. at j (put stream.0 y s.streams)) own ∙ at_put stream.0 x y s.streams known in
+            let silent : extended t [] [] added (text_in out.out) ≡ extended t [] [] added [] = ap (λ (w : Outs). extended t [] [] added (text_in w.out)) p.given in
+            subst (λ u. Follows shared had n u new) (sym (own_poll stream added out new own ∙ silent)) (record {
+              fresh = λ l. absurd (none_some (sym (kept.above n (omega (arith, l, opened))) ∙ before));
+              order = record {
+                whole = λ z e i. absurd (shut_put s new x.conn k (shut k) o refl conns z i (ap (λ (w : Stream). w.conn) (sym (some_one (sym now ∙ e)))));
+                front = more_front shared had t added h.order.front;
+              };
+            }))
+        | inr other ↦ other_poll stream added out new other (ap (λ es. at n es) streams ∙ at_put_other stream.0 n x y s.streams known other) (omega (arith, opened)) (λ z e i. heard_put s new x.conn k (shut k) o conns z i)
+      ]
+
+  -- ---- ends
+
+  loses_follow : (c : ℕ) (k : Conn) (added : List Entry) (out : Outs) → Goes (event.Lost c) added out (without_conn c k s)
+  loses_follow c k added out = stays shared had n t _ s (without_conn c k s) (told_same n t (event.Lost c) s added out (without_conn c k s) refl refl refl refl) (omega arith)
+      (λ x e. (let_go_cases k.streams n x s.streams kept.streams_rise e).1)
+      (λ x e i. record { k = i.k; known = (without_cases c x.conn i.k s.conns kept.conns_rise i.known).1; unshut = i.unshut }) h
+
+  ends_follow : (added : List Entry) (out : Outs) → Goes event.Stop added out (at_its_end s)
+  ends_follow added out = stays shared had n t _ s (at_its_end s) (told_same n t event.Stop s added out (at_its_end s) refl refl refl refl) (omega arith) (λ x e. absurd (none_some e)) (λ x e i. absurd (none_some i.known)) h
+
+  change_follows : {e : Event} (added : List Entry) (out : Outs) (new : State) → All (BeganAt had s.version) added → Change shared s added out new e → Goes e added out new
+  change_follows added out new began (rests e none silent left) = subst (λ u. Goes e added out u) (sym left) (quiet_follows e added out s none silent refl (omega arith) (λ x f i. i))
+  change_follows added out new began (comes c closing none unknown few left) = subst (λ u. Goes (event.Opened c) added out u) (sym left) (comes_follows c closing added out unknown)
+  change_follows added out new began (marks e c k k' none silent o marked left) = subst (λ u. Goes e added out u) (sym left) (quiet_follows e added out (with_conn c k' s) none silent refl (omega arith) (λ x f i. heard_put s (with_conn c k' s) c k k' o refl x i))
+  change_follows added out new began (joins c text k id none o unnamed few left) = subst (λ u. Goes (event.Text c text) added out u) (sym left) (joins_follows c text k id added out none o)
+  change_follows added out new began (asks_for c text k stream m x id what w none o few named known served left) = subst (λ u. Goes (event.Text c text) added out u) (sym left) (asks_follows c text k stream m x id what added out none o known)
+  change_follows added out new began (polls stream x k known waits o p) = polls_follow stream x k added out new known waits o began p
+  change_follows added out new began (falls stream x k known o p) = falls_follow stream x k added out new known o p
+  change_follows added out new began (loses c k known ended left) = subst (λ u. Goes (event.Lost c) added out u) (sym left) (loses_follow c k added out)
+  change_follows added out new began (ends ended left) = subst (λ u. Goes event.Stop added out u) (sym left) (ends_follow added out)
+
+-- ---- every run
+
+-- that the event was counted makes no odds to the story
+told_counted : (n : ℕ) (t : Story) (e : Event) (s : State) (added : List Entry) (out : Outs) (new : State) → told_on n t e (counted s) added out new ≡ told_on n t e s added out new
+told_counted n t (event.Text c text) s added out new = refl
+told_counted n t (event.Opened c) s added out new = refl
+told_counted n t (event.Binary c) s added out new = refl
+told_counted n t (event.Lost c) s added out new = refl
+told_counted n t (event.Poll stream) s added out new = refl
+told_counted n t event.Stop s added out new = refl
+
+counted_follows : (shared : Bool) (had : ℕ → ℕ) (n : ℕ) (t : Story) (s : State) → Follows shared had n t s → Follows shared had n t (counted s)
+counted_follows shared had n t s h = record { fresh = h.fresh; order = record { whole = λ x e i. h.order.whole x e (record { k = i.k; known = i.known; unshut = i.unshut }); front = h.order.front } }
+
+module _ (law : TaskMeans) where
+  run_follows : {token : Option (List ℕ)} {shared : Bool} {events : List Event} {entries : List (List Entry)} {outs : List Outs} {s : State} (run : Run token shared events entries outs s) (had : ℕ → ℕ) → AreVersions had run → (n : ℕ) → Follows shared had n (story n run) s
+  run_follows {shared} start had versions n = record { fresh = λ l. refl; order = record { whole = λ x e i. absurd (none_some e); front = none_front shared had } }
+  run_follows {token} {shared} (more {s = before} run event added out new fit step) had versions n =
+      subst (λ t. Follows shared had n t new) (told_counted n (story n run) event before added out new)
+      (change_follows law shared had n (story n run) (counted before) (counted_kept before (run_kept run)) (run_paired run) (counted_follows shared had n (story n run) before (run_follows run had versions.0 n)) added out new versions.1
+      (step_changes token shared before event added out new fit step))
+
+  pub replies_in_order : RepliesInOrder
+  replies_in_order token shared events entries outs s run had versions n = (run_follows run had versions n).order

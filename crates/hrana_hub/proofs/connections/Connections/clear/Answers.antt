@@ -1,0 +1,7 @@
+use Rattle.std.proofs.Common.{arith}
+use Rattle.hrana_hub.specs.State.{Conn}
+use Rattle.hrana_hub.proofs.MapLemmas.{rises_nil}
+use Rattle.hrana_hub.proofs.connections.Connections.clear.Goals as goal
+
+pub invariant_of-self : goal.invariant_of-self
+invariant_of-self c = record { rising = rw c.clear.ensures.items (rises_nil Conn); room = omega (arith, c.self.invariant.room) }

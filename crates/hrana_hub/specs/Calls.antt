@@ -1,0 +1,24 @@
+-- What the calls beside `step` answer.
+use Rattle.std.specs.Prelude.{ℕ, Bool, true, false, not, ◌&&◌, nat_lt, cond, [], ◌∷◌, Option, None, Some}
+use Rattle.stream_task.specs.Polls.{is_waiting}
+use Rattle.hrana_hub.specs.Maps.{Numbered, at}
+use Rattle.hrana_hub.specs.State.{Conn, Stream}
+use Rattle.hrana_hub.specs.Step.{has_room}
+
+-- a connection that isn't known may come
+abbrev pub room_at : Option Conn → Bool
+room_at None = true
+room_at (Some k) = not k.closing && has_room k
+
+abbrev pub is_heard : Option Conn → Bool
+is_heard None = false
+is_heard (Some k) = not k.closing
+
+-- the stream has something to do, and its connection isn't closing
+abbrev pub is_ready : Numbered Conn → Stream → Bool
+is_ready conns x = is_waiting x.task.asks && is_heard (at x.conn conns)
+
+-- the first of these that is above the number and ready
+abbrev pub first_ready : ℕ → Numbered Conn → Numbered Stream → Option ℕ
+first_ready after conns [] = None
+first_ready after conns (entry ∷ entries) = cond (nat_lt after entry.0 && is_ready conns entry.1) (Some entry.0) (first_ready after conns entries)

@@ -1,0 +1,15 @@
+pub mod Maps
+pub mod State
+pub mod Texts
+pub mod Arrivals
+pub mod Polled
+pub mod Ended
+pub mod Step
+pub mod Settled
+pub mod Agrees
+pub mod Adds
+pub mod Calls
+pub mod Lending
+pub mod Run
+pub mod Stories
+pub mod Laws

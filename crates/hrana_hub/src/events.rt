@@ -1,0 +1,18 @@
+use hrana_value::{Bytes, StreamNo};
+
+/// What comes to the hub.
+#[derive(Drop)]
+pub enum Event {
+    /// A WebSocket connection was opened.
+    Opened { conn: u32 },
+    /// A text message of a WebSocket connection.
+    Text { conn: u32, text: Bytes },
+    /// A binary message of a WebSocket connection.
+    Binary { conn: u32 },
+    /// The connection is gone.
+    Lost { conn: u32 },
+    /// The stream may run one statement.
+    Poll { stream: StreamNo },
+    /// The run ends.
+    Stop,
+}

@@ -1,0 +1,78 @@
+// The hub, and one event.
+ghost use Rattle.std.specs.Prelude.{◌≡◌, ◌<◌, ◌≤◌, ◌+◌, ◌^◌, IfOk, IsTrue, true};
+ghost use Rattle.engine_core.specs.Transactions.{NoneLive};
+ghost use Rattle.hrana_hub.specs.Adds.{Adds};
+ghost use Rattle.hrana_hub.specs.Agrees.{HubAgrees, IsNew};
+ghost use Rattle.hrana_hub.specs.Maps.{at};
+ghost use Rattle.hrana_hub.specs.Arrivals.{shut, with_conn};
+ghost use Rattle.hrana_hub.specs.State.{Conn, with_state};
+ghost use Rattle.hrana_hub.specs.Step.{Step, Happens, fits, counted};
+
+use crate::connections::Connections;
+use crate::events::Event;
+use crate::slot::Slot;
+use engine_core::{Engine, Entries};
+use hrana_value::{NoMemory, Txt};
+use http_wire::{Out, Outs};
+use std::alloc::Global;
+use std::collections::BTreeMap;
+use std::marker::Model;
+use txn_table::TxnTable;
+
+/// The connections, their streams, who holds the turn, and the entries that no journal took yet.
+#[derive(Drop)]
+pub struct Hub {
+    pub(crate) alloc: Global,
+    pub(crate) token: Option<Txt>,
+    pub(crate) conns: Connections,
+    pub(crate) slots: BTreeMap<u64, Slot>,
+    pub(crate) opened: u64,
+    pub(crate) events: u64,
+    pub(crate) stopped: bool,
+    pub(crate) turns: TxnTable,
+    pub(crate) entries: Entries,
+}
+
+impl Model for Hub {
+    ghost use Rattle.std.specs.Coded.{codes};
+    ghost use Rattle.hrana_batch.specs.contracts.conditions.Cond as conditions;
+    ghost use Rattle.hrana_hub.specs.State.{Seen};
+
+    ghost Value = { Seen };
+
+    ghost coded = { Prim.hlevel (codes, conditions.the_row.coded) };
+
+    ghost view = { λ h. record { token = h.token; state = record { conns = h.conns; streams = h.slots.entries; opened = h.opened; next = h.entries.next; version = h.turns.version; events = h.events; stopped = h.stopped }; turns = h.turns; noted = h.entries } };
+}
+
+impl Hub {
+    /// A hub that knows nothing yet. Where a token is given, connections have to give it.
+    pub fn new(alloc: Global, token: Option<Txt>) -> Result<Hub, NoMemory>
+        ensures { IfOk result (λ hub. IsNew token hub) }
+    {
+        Ok(Hub {
+            alloc,
+            token,
+            conns: Connections::new(alloc)?,
+            slots: BTreeMap::new(alloc),
+            opened: 0,
+            events: 0,
+            stopped: false,
+            turns: TxnTable::new(alloc)?,
+            entries: Entries::new(alloc)?,
+        })
+    }
+
+    /// Closes the connection with this code, after what it is told.
+    pub(crate) fn close(&mut self, conn: u32, out: Option<Out>, code: u16) -> Outs
+        ensures given { result ≡ record { conn = conn; out = out; close = Some code } }
+        ensures hub { (k : Conn) → at conn self.old.state.conns ≡ Some k → self.new ≡ with_state (with_conn conn (shut k) self.old.state) self.old }
+    {
+        self.conns.shut(conn);
+        Outs {
+            conn,
+            out,
+            close: Some(code),
+        }
+    }
+}

@@ -1,0 +1,24 @@
+// Laws over runs of the hub. Each is a function whose contract is the law.
+ghost use Rattle.hrana_hub.specs.Laws.{DeadAddNothing, InEveryRun, LimitsHold};
+ghost use Rattle.hrana_hub.specs.Stories.{RepliesInOrder};
+
+use stream_task::{replies_stand_in_order, shut_streams_add_nothing};
+
+/// No limit is passed in any run.
+pub fn limits_hold()
+    ensures { InEveryRun LimitsHold }
+{}
+
+/// What is dead or gone stays so, and adds no entry.
+pub fn the_dead_add_nothing()
+    ensures { DeadAddNothing }
+{
+    shut_streams_add_nothing();
+}
+
+/// In every run the replies of each stream are those of its requests, in their order.
+pub fn replies_follow_requests()
+    ensures { RepliesInOrder }
+{
+    replies_stand_in_order();
+}

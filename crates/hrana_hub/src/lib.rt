@@ -1,0 +1,29 @@
+//! The hub: connections, their streams, and one event at a time.
+#![tactic(auto)]
+
+mod agreement;
+mod arrivals;
+mod calls;
+mod connection;
+mod connections;
+mod ends;
+mod events;
+mod hub;
+mod laws;
+mod limits;
+mod outs;
+mod polls;
+mod slot;
+mod step;
+mod texts;
+
+pub use agreement::{
+    a_new_hub_agrees, nothing_lives_without_streams, taken_entries_leave_agreement,
+};
+pub use events::Event;
+pub use hub::Hub;
+pub use laws::{limits_hold, replies_follow_requests, the_dead_add_nothing};
+pub use limits::{
+    MAX_CONNECTIONS, MAX_EVENTS, MAX_OUTSTANDING, MAX_STORED_BYTES, MAX_STORED_TEXTS, MAX_STREAMS,
+    limits_are,
+};

@@ -1,0 +1,30 @@
+// The limits of the hub.
+ghost use Rattle.std.specs.Prelude.{◌≡◌, ◌-◌, ◌^◌};
+
+/// The most connections that are known.
+pub const MAX_CONNECTIONS: usize = 64;
+
+/// The most streams of a connection, with those whose close waits.
+pub const MAX_STREAMS: usize = 128;
+
+/// The most requests of a connection that wait for their reply.
+pub const MAX_OUTSTANDING: u32 = 32;
+
+/// The most texts that a connection stores.
+pub const MAX_STORED_TEXTS: usize = 32;
+
+/// The most bytes of the texts that a connection stores, together.
+pub const MAX_STORED_BYTES: usize = 262144;
+
+/// The most events of a run.
+pub const MAX_EVENTS: u64 = 4611686018427387903;
+
+/// The limits as numbers.
+pub fn limits_are()
+    ensures max_connections { MAX_CONNECTIONS ≡ 64 }
+    ensures max_streams { MAX_STREAMS ≡ 128 }
+    ensures max_outstanding { MAX_OUTSTANDING ≡ 32 }
+    ensures max_stored_texts { MAX_STORED_TEXTS ≡ 32 }
+    ensures max_stored_bytes { MAX_STORED_BYTES ≡ 262144 }
+    ensures max_events { MAX_EVENTS ≡ 2 ^ 62 - 1 }
+{}

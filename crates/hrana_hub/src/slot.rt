@@ -1,0 +1,192 @@
+// A stream, with the requests that wait on it.
+ghost use Rattle.std.specs.Prelude.{◌≡◌, ◌<◌, ◌≤◌, ◌+◌, ◌-◌, ◌^◌, OnOk, OnErr, IfOk, false, Option, Some, None, IsTrue};
+ghost use Rattle.txn_table.specs.Turns.{has};
+ghost use Rattle.stream_task.specs.Doing.{MayBeAsked};
+ghost use Rattle.stream_task.specs.Session.{is_shut, open_of};
+ghost use Rattle.stream_task.specs.Polls.{is_waiting};
+ghost use Rattle.stream_task.specs.Together.{MayPoll, HasPolled, HasEnded};
+ghost use Rattle.hrana_hub.specs.Arrivals.{fresh, waiting};
+ghost use Rattle.hrana_hub.specs.Maps.{at, put, placed, without};
+ghost use Rattle.hrana_hub.specs.Polled.{first_id, later_ids, dropped, is_closed};
+ghost use Rattle.hrana_hub.specs.State.{Stream};
+
+use engine_core::{Engine, Entries, Undo};
+use hrana_value::{NoMemory, StreamNo};
+use std::alloc::Global;
+use std::collections::{BTreeMap, VecDeque};
+use std::marker::Model;
+use stream_requests::Ask;
+use stream_task::{Poll, Stepped, StreamTask, Task, TxnState};
+use txn_table::TxnTable;
+
+/// A stream, with the ids of the requests that wait on it.
+#[derive(Drop)]
+pub(crate) struct Slot {
+    conn: u32,
+    waits: VecDeque<i32>,
+    task: StreamTask,
+}
+
+impl Model for Slot {
+    ghost use Rattle.std.specs.Coded.{codes};
+    ghost use Rattle.hrana_batch.specs.contracts.conditions.Cond as conditions;
+    ghost use Rattle.hrana_hub.specs.State.{Stream};
+
+    ghost Value = { Stream };
+
+    ghost coded = { Prim.hlevel (codes, conditions.the_row.coded) };
+
+    ghost view = { λ x. record { conn = x.conn; waits = x.waits.items; task = x.task } };
+}
+
+/// One more stream. Where there is no memory nothing changes.
+pub(crate) fn add_slot(
+    slots: &mut BTreeMap<u64, Slot>,
+    number: u64,
+    slot: Slot,
+) -> Result<(), NoMemory>
+    ensures ok { OnOk result (slots.new.entries ≡ placed number slot slots.old.entries) }
+    ensures err { OnErr result (slots.new.entries ≡ slots.old.entries) }
+{
+    match slots.insert(number, slot) {
+        Ok(_) => Ok(()),
+        Err(_) => Err(NoMemory),
+    }
+}
+
+/// Lets go of a stream.
+pub(crate) fn drop_slot(slots: &mut BTreeMap<u64, Slot>, number: u64)
+    ensures { slots.new.entries ≡ without number slots.old.entries }
+{
+    let _slot = slots.remove(&number);
+}
+
+/// Asks a stream one thing more, where there is one of this number. Where there is no memory nothing changes.
+pub(crate) fn ask_slot(
+    slots: &mut BTreeMap<u64, Slot>,
+    number: u64,
+    request_id: i32,
+    ask: Ask,
+) -> Result<(), NoMemory>
+    requires { MayBeAsked ask }
+    ensures ok { OnOk result ((x : Stream) → at number slots.old.entries ≡ Some x → slots.new.entries ≡ put number (waiting request_id ask x) slots.old.entries) }
+    ensures err { OnErr result (slots.new.entries ≡ slots.old.entries) }
+{
+    match slots.get_mut(&number) {
+        Some(slot) => slot.ask(request_id, ask),
+        None => Ok(()),
+    }
+}
+
+fn is_closed(state: TxnState) -> bool
+    ensures { result ≡ is_closed state }
+{
+    match state {
+        TxnState::Closed => true,
+        _ => false,
+    }
+}
+
+impl Slot {
+    /// A stream of this connection that was asked nothing.
+    pub(crate) fn new(alloc: Global, conn: u32, stream: u64) -> Result<Slot, NoMemory>
+        ensures { IfOk result (λ slot. slot ≡ fresh conn stream) }
+    {
+        Ok(Slot {
+            conn,
+            waits: VecDeque::new(alloc),
+            task: StreamTask::new(alloc, StreamNo(stream), false)?,
+        })
+    }
+
+    pub(crate) fn conn(&self) -> u32
+        ensures { result ≡ self.now.conn }
+    {
+        self.conn
+    }
+
+    pub(crate) fn is_closed(&self) -> bool
+        ensures { result ≡ is_closed self.now.task.session.state }
+    {
+        is_closed(self.task.state())
+    }
+
+    /// Whether a request waits or runs.
+    pub(crate) fn is_waiting(&self) -> bool
+        ensures { result ≡ is_waiting self.now.task.asks }
+    {
+        self.task.ready()
+    }
+
+    /// A request has come. Where there is no memory nothing changes.
+    pub(crate) fn ask(&mut self, id: i32, ask: Ask) -> Result<(), NoMemory>
+        requires { MayBeAsked ask }
+        ensures ok { OnOk result (self.new ≡ waiting id ask self.old) }
+        ensures err { OnErr result (self.new ≡ self.old) }
+    {
+        self.waits.reserve(1)?;
+        self.task.add(ask)?;
+        self.waits.push_back_reserved(id);
+        Ok(())
+    }
+
+    /// The id of the first request that waits.
+    pub(crate) fn first_id(&self) -> i32
+        ensures { result ≡ first_id self.now.waits }
+    {
+        match self.waits.front() {
+            Some(id) => *id,
+            None => 0,
+        }
+    }
+
+    /// The first request was answered.
+    pub(crate) fn answered(&mut self)
+        ensures { self.new ≡ record { conn = self.old.conn; waits = later_ids self.old.waits; task = self.old.task } }
+    {
+        let _answered = self.waits.pop_front();
+    }
+
+    /// One poll of the stream.
+    pub(crate) fn poll<E: Engine>(
+        &mut self,
+        engine: &mut E,
+        turns: &mut TxnTable,
+        entries: &mut Entries,
+    ) -> Poll<Stepped>
+        requires may { MayPoll E.told E.SHARED (E.db engine.old) (E.live engine.old) turns.old entries.old.next self.old.task.stream self.old.task.session.state }
+        requires room { 0 < entries.old.spare }
+        requires few { (turns.old.version < 2 ^ 64 - 1) × (entries.old.next < 2 ^ 64 - 1) }
+        ensures polled { HasPolled E.told E.SHARED E.meaning E.db E.live E.faults engine.old engine.new turns.old turns.new entries.old entries.new self.old.task self.new.task result }
+        ensures slot { self.new ≡ record { conn = self.old.conn; waits = self.old.waits; task = self.new.task } }
+        ensures spare { entries.old.spare ≤ entries.new.spare + 1 }
+        ensures later { E.faults engine.old ≤ E.faults engine.new }
+    {
+        self.task.poll(engine, turns, entries)
+    }
+
+    /// Ends the stream from outside.
+    pub(crate) fn end<E: Engine>(
+        mut self,
+        engine: &mut E,
+        turns: &mut TxnTable,
+        entries: &mut Entries,
+        why: Undo,
+    )
+        requires may { MayPoll E.told E.SHARED (E.db engine.old) (E.live engine.old) turns.old entries.old.next self.task.stream self.task.session.state }
+        requires room { open_of self.task.session.state ≤ entries.old.spare }
+        ensures ended { HasEnded E.told E.SHARED E.meaning E.db E.live E.faults engine.old engine.new turns.old turns.new entries.old entries.new self.task why }
+        ensures spare { entries.new.spare + open_of self.task.session.state ≡ entries.old.spare }
+        ensures later { E.faults engine.old ≤ E.faults engine.new }
+    {
+        self.task.end(engine, turns, entries, why);
+    }
+
+    /// The requests that wait are dropped.
+    pub(crate) fn drop_asks(&mut self)
+        ensures { self.new ≡ dropped self.old.task self.old }
+    {
+        self.task.drop_asks();
+        self.waits.clear();
+    }
+}

@@ -1,0 +1,61 @@
+// One event of the hub.
+ghost use Rattle.std.specs.Prelude.{◌≡◌, ◌<◌, ◌≤◌, ◌^◌, true};
+ghost use Rattle.hrana_hub.specs.Adds.{Adds};
+ghost use Rattle.hrana_hub.specs.Agrees.{HubAgrees, IsAhead};
+ghost use Rattle.hrana_hub.specs.Ended.{LossFrees};
+ghost use Rattle.hrana_hub.specs.State.{with_state};
+ghost use Rattle.hrana_hub.specs.Step.{Step, Comes, fits, may_come, counted};
+
+use crate::events::Event;
+use crate::hub::Hub;
+use engine_core::Engine;
+use http_wire::Outs;
+use stream_task::{a_joined_stream_stands, a_stream_joins};
+
+impl Hub {
+    /// Counts an event.
+    fn count(&mut self)
+        requires { self.old.state.events < 2 ^ 62 }
+        ensures { self.new ≡ with_state (counted self.old.state) self.old }
+    {
+        self.events += 1;
+    }
+
+    /// What comes of an event that was counted.
+    fn come<E: Engine>(&mut self, engine: &mut E, event: Event) -> Outs
+        requires may { may_come self.old.state event ≡ true }
+        requires ahead { IsAhead self.old.state }
+        requires agrees { HubAgrees E.told E.SHARED (E.db engine.old) (E.live engine.old) self.old }
+        ensures adds { Adds E.told E.SHARED E.meaning E.db E.live E.faults engine.old engine.new self.old self.new (λ added. Comes self.old.token E.SHARED self.old.state event added result self.new.state) }
+        ensures agrees { HubAgrees E.told E.SHARED (E.db engine.new) (E.live engine.new) self.new }
+        ensures freed { LossFrees event self.old self.new }
+        ensures token { self.new.token ≡ self.old.token }
+        ensures later { E.faults engine.old ≤ E.faults engine.new }
+    {
+        a_stream_joins::<E>();
+        a_joined_stream_stands::<E>();
+        match event {
+            Event::Opened { conn } => self.open(conn),
+            Event::Text { conn, text } => self.text(conn, text.as_slice()),
+            Event::Binary { conn } => self.binary(conn),
+            Event::Lost { conn } => self.lose(engine, conn),
+            Event::Poll { stream } => self.poll(engine, stream),
+            Event::Stop => self.stop(engine),
+        }
+    }
+
+    /// One event: the entries that it adds, what it gives, and the state after it are by the rules of the hub. A step that finds
+    /// no memory closes its connection with 1011. `Binary`, `Lost` and `Stop` take none.
+    pub fn step<E: Engine>(&mut self, engine: &mut E, event: Event) -> Outs
+        requires fits { fits self.old.state event ≡ true }
+        requires agrees { HubAgrees E.told E.SHARED (E.db engine.old) (E.live engine.old) self.old }
+        ensures adds { Adds E.told E.SHARED E.meaning E.db E.live E.faults engine.old engine.new self.old self.new (λ added. Step self.old.token E.SHARED self.old.state event added result self.new.state) }
+        ensures agrees { HubAgrees E.told E.SHARED (E.db engine.new) (E.live engine.new) self.new }
+        ensures freed { LossFrees event self.old self.new }
+        ensures token { self.new.token ≡ self.old.token }
+        ensures later { E.faults engine.old ≤ E.faults engine.new }
+    {
+        self.count();
+        self.come(engine, event)
+    }
+}
