@@ -15,27 +15,91 @@ const WELCOME: &str = "< 1 {\"type\":\"hello_ok\"}\n";
 /// Requests that are answered at their arrival, one after another on one connection, each with what it is answered: a
 /// code and its message, or a response.
 const ARRIVALS: [(&str, &str, &str); 24] = [
-    ("{\"type\":\"execute\",\"stream_id\":1,\"stmt\":{\"sql_id\":4}}", "STREAM_NOT_OPEN", "stream is not open"),
-    ("{\"type\":\"close_stream\",\"stream_id\":1}", "", "{\"type\":\"close_stream\"}"),
-    ("{\"type\":\"open_stream\",\"stream_id\":1}", "", "{\"type\":\"open_stream\"}"),
-    ("{\"type\":\"open_stream\",\"stream_id\":1}", "STREAM_EXISTS", "stream id is in use"),
-    ("{\"type\":\"execute\",\"stream_id\":1,\"stmt\":{\"sql_id\":4}}", "NO_SQL_ID", "sql id is not stored"),
-    ("{\"type\":\"sequence\",\"stream_id\":1,\"sql_id\":4}", "NO_SQL_ID", "sql id is not stored"),
+    (
+        "{\"type\":\"execute\",\"stream_id\":1,\"stmt\":{\"sql_id\":4}}",
+        "STREAM_NOT_OPEN",
+        "stream is not open",
+    ),
+    (
+        "{\"type\":\"close_stream\",\"stream_id\":1}",
+        "",
+        "{\"type\":\"close_stream\"}",
+    ),
+    (
+        "{\"type\":\"open_stream\",\"stream_id\":1}",
+        "",
+        "{\"type\":\"open_stream\"}",
+    ),
+    (
+        "{\"type\":\"open_stream\",\"stream_id\":1}",
+        "STREAM_EXISTS",
+        "stream id is in use",
+    ),
+    (
+        "{\"type\":\"execute\",\"stream_id\":1,\"stmt\":{\"sql_id\":4}}",
+        "NO_SQL_ID",
+        "sql id is not stored",
+    ),
+    (
+        "{\"type\":\"sequence\",\"stream_id\":1,\"sql_id\":4}",
+        "NO_SQL_ID",
+        "sql id is not stored",
+    ),
     (
         "{\"type\":\"batch\",\"stream_id\":1,\"batch\":{\"steps\":[{\"stmt\":{\"sql\":\"SELECT 1\"}},{\"condition\":{\"type\":\"error\",\"step\":0},\"stmt\":{\"sql_id\":4}}]}}",
         "NO_SQL_ID",
         "sql id is not stored",
     ),
-    ("{\"type\":\"close_sql\",\"sql_id\":4}", "", "{\"type\":\"close_sql\"}"),
-    ("{\"type\":\"store_sql\",\"sql_id\":4,\"sql\":\"SELECT 1\"}", "", "{\"type\":\"store_sql\"}"),
-    ("{\"type\":\"store_sql\",\"sql_id\":4,\"sql\":\"SELECT 2\"}", "SQL_ID_IN_USE", "sql id is in use"),
-    ("{\"type\":\"close_sql\",\"sql_id\":4}", "", "{\"type\":\"close_sql\"}"),
-    ("{\"type\":\"execute\",\"stream_id\":1,\"stmt\":{\"sql_id\":4}}", "NO_SQL_ID", "sql id is not stored"),
-    ("{\"type\":\"describe\",\"stream_id\":9}", "DESCRIBE_UNSUPPORTED", "describe is not supported"),
-    ("{\"type\":\"sing\"}", "UNKNOWN_REQUEST", "unknown request type"),
-    ("{\"type\":\"execute\",\"stream_id\":1,\"stmt\":{}}", "BAD_REQUEST", "malformed request"),
-    ("{\"type\":\"execute\",\"stream_id\":1,\"stmt\":{\"sql\":\"a\",\"sql_id\":1}}", "BAD_REQUEST", "malformed request"),
-    ("{\"type\":\"open_stream\",\"stream_id\":2147483648}", "BAD_REQUEST", "malformed request"),
+    (
+        "{\"type\":\"close_sql\",\"sql_id\":4}",
+        "",
+        "{\"type\":\"close_sql\"}",
+    ),
+    (
+        "{\"type\":\"store_sql\",\"sql_id\":4,\"sql\":\"SELECT 1\"}",
+        "",
+        "{\"type\":\"store_sql\"}",
+    ),
+    (
+        "{\"type\":\"store_sql\",\"sql_id\":4,\"sql\":\"SELECT 2\"}",
+        "SQL_ID_IN_USE",
+        "sql id is in use",
+    ),
+    (
+        "{\"type\":\"close_sql\",\"sql_id\":4}",
+        "",
+        "{\"type\":\"close_sql\"}",
+    ),
+    (
+        "{\"type\":\"execute\",\"stream_id\":1,\"stmt\":{\"sql_id\":4}}",
+        "NO_SQL_ID",
+        "sql id is not stored",
+    ),
+    (
+        "{\"type\":\"describe\",\"stream_id\":9}",
+        "DESCRIBE_UNSUPPORTED",
+        "describe is not supported",
+    ),
+    (
+        "{\"type\":\"sing\"}",
+        "UNKNOWN_REQUEST",
+        "unknown request type",
+    ),
+    (
+        "{\"type\":\"execute\",\"stream_id\":1,\"stmt\":{}}",
+        "BAD_REQUEST",
+        "malformed request",
+    ),
+    (
+        "{\"type\":\"execute\",\"stream_id\":1,\"stmt\":{\"sql\":\"a\",\"sql_id\":1}}",
+        "BAD_REQUEST",
+        "malformed request",
+    ),
+    (
+        "{\"type\":\"open_stream\",\"stream_id\":2147483648}",
+        "BAD_REQUEST",
+        "malformed request",
+    ),
     (
         "{\"type\":\"execute\",\"stream_id\":1,\"stmt\":{\"sql\":\"a\",\"args\":[{\"type\":\"float\",\"value\":1}]}}",
         "FLOAT_UNSUPPORTED",
@@ -51,10 +115,26 @@ const ARRIVALS: [(&str, &str, &str); 24] = [
         "UNKNOWN_REQUEST",
         "unknown request type",
     ),
-    ("{\"type\":\"fetch_cursor\",\"cursor_id\":1,\"max_count\":1}", "UNKNOWN_REQUEST", "unknown request type"),
-    ("{\"type\":\"close_cursor\",\"cursor_id\":1}", "UNKNOWN_REQUEST", "unknown request type"),
-    ("{\"type\":\"execute\",\"stream_id\":2,\"stmt\":{\"sql_id\":4}}", "STREAM_NOT_OPEN", "stream is not open"),
-    ("{\"type\":\"open_stream\",\"stream_id\":-2147483648}", "", "{\"type\":\"open_stream\"}"),
+    (
+        "{\"type\":\"fetch_cursor\",\"cursor_id\":1,\"max_count\":1}",
+        "UNKNOWN_REQUEST",
+        "unknown request type",
+    ),
+    (
+        "{\"type\":\"close_cursor\",\"cursor_id\":1}",
+        "UNKNOWN_REQUEST",
+        "unknown request type",
+    ),
+    (
+        "{\"type\":\"execute\",\"stream_id\":2,\"stmt\":{\"sql_id\":4}}",
+        "STREAM_NOT_OPEN",
+        "stream is not open",
+    ),
+    (
+        "{\"type\":\"open_stream\",\"stream_id\":-2147483648}",
+        "",
+        "{\"type\":\"open_stream\"}",
+    ),
 ];
 
 /// A script, what is to come of it, and the number of its events.
@@ -86,7 +166,14 @@ impl Scene {
     }
 
     /// A request that is answered at its arrival.
-    fn ask(&mut self, conn: u32, id: usize, request: &str, code: &str, text: &str) -> Result<(), NoMemory> {
+    fn ask(
+        &mut self,
+        conn: u32,
+        id: usize,
+        request: &str,
+        code: &str,
+        text: &str,
+    ) -> Result<(), NoMemory> {
         let line = request_line(self.alloc, conn, id, request)?;
         let out = answer_line(self.alloc, conn, id, code, text)?;
         self.line(line.as_str(), out.as_str())
@@ -102,14 +189,28 @@ impl Scene {
     }
 
     /// A poll, and the code and text of the answer that it gives, if any.
-    fn poll(&mut self, stream: u64, conn: u32, id: usize, code: &str, text: &str) -> Result<(), NoMemory> {
+    fn poll(
+        &mut self,
+        stream: u64,
+        conn: u32,
+        id: usize,
+        code: &str,
+        text: &str,
+    ) -> Result<(), NoMemory> {
         let line = format!(in self.alloc; "! {stream}\n")?;
         let out = answer_line(self.alloc, conn, id, code, text)?;
         self.line(line.as_str(), out.as_str())
     }
 
     /// A statement of a stream that is polled at once.
-    fn runs(&mut self, conn: u32, id: usize, stream: u64, sql: &str, text: &str) -> Result<(), NoMemory> {
+    fn runs(
+        &mut self,
+        conn: u32,
+        id: usize,
+        stream: u64,
+        sql: &str,
+        text: &str,
+    ) -> Result<(), NoMemory> {
         self.waits(conn, id, 1, sql)?;
         self.poll(stream, conn, id, "", text)
     }
@@ -158,7 +259,13 @@ fn the_129th_stream_is_refused(rt: HostRuntime) -> Result<(), Fail> {
     let mut scene = Scene::new(alloc)?;
     for stream in 0..128 {
         let request = opening(alloc, stream)?;
-        scene.ask(1, stream, request.as_str(), "", "{\"type\":\"open_stream\"}")?;
+        scene.ask(
+            1,
+            stream,
+            request.as_str(),
+            "",
+            "{\"type\":\"open_stream\"}",
+        )?;
     }
     let used = opening(alloc, 5)?;
     scene.ask(1, 5, used.as_str(), "STREAM_EXISTS", "stream id is in use")?;
@@ -173,13 +280,17 @@ fn storing(alloc: Global, number: usize, length: usize) -> Result<String, NoMemo
     for _ in 0..length {
         text.push('x')?;
     }
-    Ok(format!(in alloc;
-        "{{\"type\":\"store_sql\",\"sql_id\":{number},\"sql\":\"{text}\"}}"
-    )?)
+    Ok(format!(in alloc; "{{\"type\":\"store_sql\",\"sql_id\":{number},\"sql\":\"{text}\"}}")?)
 }
 
 /// Texts of this length are stored, so many of them, and one more of this length is refused.
-fn compare_texts(rt: &impl Abort, alloc: Global, count: usize, length: usize, more: usize) -> Result<(), Fail> {
+fn compare_texts(
+    rt: &impl Abort,
+    alloc: Global,
+    count: usize,
+    length: usize,
+    more: usize,
+) -> Result<(), Fail> {
     let mut scene = Scene::new(alloc)?;
     for number in 0..count {
         let request = storing(alloc, number, length)?;
@@ -188,7 +299,13 @@ fn compare_texts(rt: &impl Abort, alloc: Global, count: usize, length: usize, mo
     let used = storing(alloc, 0, more)?;
     scene.ask(1, 0, used.as_str(), "SQL_ID_IN_USE", "sql id is in use")?;
     let next = storing(alloc, count, more)?;
-    scene.ask(1, 1, next.as_str(), "TOO_MANY_TEXTS", "too many stored texts")?;
+    scene.ask(
+        1,
+        1,
+        next.as_str(),
+        "TOO_MANY_TEXTS",
+        "too many stored texts",
+    )?;
     scene.compare(rt, Status::Done, 0)
 }
 
@@ -272,11 +389,26 @@ const ONE: &str =
 /// Two connections with a stream each, and a table.
 fn two_connections(alloc: Global) -> Result<Scene, NoMemory> {
     let mut scene = Scene::new(alloc)?;
-    scene.ask(1, 1, "{\"type\":\"open_stream\",\"stream_id\":1}", "", OPENED)?;
+    scene.ask(
+        1,
+        1,
+        "{\"type\":\"open_stream\",\"stream_id\":1}",
+        "",
+        OPENED,
+    )?;
     scene.runs(1, 2, 1, "CREATE TABLE t (a)", EMPTY)?;
     scene.line("+ 2\n", "")?;
-    scene.line("> 2 {\"type\":\"hello\"}\n", "< 2 {\"type\":\"hello_ok\"}\n")?;
-    scene.ask(2, 1, "{\"type\":\"open_stream\",\"stream_id\":1}", "", OPENED)?;
+    scene.line(
+        "> 2 {\"type\":\"hello\"}\n",
+        "< 2 {\"type\":\"hello_ok\"}\n",
+    )?;
+    scene.ask(
+        2,
+        1,
+        "{\"type\":\"open_stream\",\"stream_id\":1}",
+        "",
+        OPENED,
+    )?;
     Ok(scene)
 }
 
@@ -308,7 +440,10 @@ fn poll_noted(
     answer: (u32, usize, &str),
 ) -> Result<(), Fail> {
     let script = format!(in scene.alloc; "{}! {stream}\n", scene.script)?;
-    let faults = Faults { note, ..Faults::NONE };
+    let faults = Faults {
+        note,
+        ..Faults::NONE
+    };
     let engine = MemoryKeeper::new(scene.alloc)?;
     let played = play(scene.alloc, &["replay"], script.as_str(), faults, engine)?;
     assert_eq!(rt; played.ended.status, Status::JournalFault);
@@ -333,13 +468,23 @@ fn a_failing_journal_keeps_what_it_took(rt: HostRuntime) -> Result<(), Fail> {
     scene.waits(2, 2, 1, "BEGIN IMMEDIATE")?;
     poll_noted(&rt, &mut scene, 5, 2, 2, (2, 2, EMPTY))?;
     // The last entry is that of the end.
-    let faults = Faults { note: 6, ..Faults::NONE };
+    let faults = Faults {
+        note: 6,
+        ..Faults::NONE
+    };
     let wanted = Wanted {
         unsaved: 1,
         ..scene.wanted(Status::JournalFault, 5)
     };
     let engine = MemoryKeeper::new(scene.alloc)?;
-    compare(&rt, scene.alloc, scene.script.as_str(), faults, engine, wanted)
+    compare(
+        &rt,
+        scene.alloc,
+        scene.script.as_str(),
+        faults,
+        engine,
+        wanted,
+    )
 }
 
 /// The three streams' statements in turn, each with its stream.
@@ -356,7 +501,12 @@ const STATEMENTS: [(&str, usize); 6] = [
 /// rowid and the count that the last two statements find.
 const ENGINE_FAULTS: [(u64, [&str; 6], &str, &str); 7] = [
     (0, ["", "", "", "", "", ""], "2", "2"),
-    (1, ["ENGINE_FAULT", "", "NO_TABLE", "", "NO_TABLE", "NO_TABLE"], "", ""),
+    (
+        1,
+        ["ENGINE_FAULT", "", "NO_TABLE", "", "NO_TABLE", "NO_TABLE"],
+        "",
+        "",
+    ),
     (2, ["", "ENGINE_FAULT", "", "NO_TXN", "", ""], "2", "2"),
     (3, ["", "", "ENGINE_FAULT", "STREAM_LOST", "", ""], "1", "1"),
     (4, ["", "", "", "ENGINE_FAULT", "", ""], "1", "1"),

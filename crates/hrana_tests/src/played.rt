@@ -79,7 +79,11 @@ pub fn compare<E: Engine + Drop>(
 {
     let played = play(alloc, &["replay"], script, faults, engine)?;
     let ended = &played.ended;
-    let counts = (ended.events, played.journal.entries().len(), ended.unsaved.len());
+    let counts = (
+        ended.events,
+        played.journal.entries().len(),
+        ended.unsaved.len(),
+    );
     assert_eq!(rt; played.sink.bytes(), wanted.out.as_bytes());
     assert_eq!(rt; ended.status, wanted.status);
     assert_eq!(rt; counts, (wanted.events, wanted.noted, wanted.unsaved));

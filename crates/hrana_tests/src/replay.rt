@@ -124,7 +124,14 @@ fn short_scripts_are_done(rt: HostRuntime) -> Result<(), Fail> {
             unsaved: 0,
             out,
         };
-        compare(&rt, alloc, script, Faults::NONE, PlainKeeper::new(alloc)?, wanted)?;
+        compare(
+            &rt,
+            alloc,
+            script,
+            Faults::NONE,
+            PlainKeeper::new(alloc)?,
+            wanted,
+        )?;
     }
     Ok(())
 }
@@ -161,7 +168,8 @@ fn words_of_no_form_are_bad(rt: HostRuntime) -> Result<(), Fail> {
 
 const WELCOME: &str = "< 1 {\"type\":\"hello_ok\"}\n";
 
-const NO_WELCOME: &str = "< 1 {\"error\":{\"code\":\"AUTH\",\"message\":\"authentication failed\"},\"type\":\"hello_error\"}\nx 1 1000\n";
+const NO_WELCOME: &str =
+    "< 1 {\"error\":{\"code\":\"AUTH\",\"message\":\"authentication failed\"},\"type\":\"hello_error\"}\nx 1 1000\n";
 
 #[test]
 fn a_token_is_the_one_that_was_given(rt: HostRuntime) -> Result<(), Fail> {
@@ -307,11 +315,7 @@ fn a_large_result_is_refused(rt: HostRuntime) -> Result<(), Fail> {
     for (id, row) in [
         (
             6,
-            (
-                "SELECT a FROM t",
-                "RESULT_TOO_LARGE",
-                "result is too large",
-            ),
+            ("SELECT a FROM t", "RESULT_TOO_LARGE", "result is too large"),
         ),
         (7, ("SELECT", "SYNTAX", "statement is not understood")),
     ] {

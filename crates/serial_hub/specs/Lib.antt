@@ -1,4 +1,0 @@
-pub mod Engine
-pub mod Hub
-pub mod Law
-pub mod NumberEngine
