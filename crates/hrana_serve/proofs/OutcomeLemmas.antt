@@ -20,7 +20,7 @@ use Rattle.hrana_hub.specs.Stories.{RepliesInOrder}
 use Rattle.hrana_serve.specs.Clauses.{WithJournal}
 use Rattle.hrana_serve.specs.Notes.{AddsNoted, with_entries}
 use Rattle.hrana_serve.specs.Outcome.{Outcome, IsEarly, LeavesBy}
-use Rattle.hrana_serve.specs.Story.{HasStory, HasWritten, HasAnswered, HasReplies, IsFirstBad, Replayed}
+use Rattle.hrana_serve.specs.Story.{HasStory, HasAnswered, HasReplies, IsFirstBad, Replayed}
 use Rattle.hrana_serve.specs.Replay.{StopsAs}
 use Rattle.hrana_serve.specs.Words.{IsReplay, token_in, AsksReplay}
 use Rattle.hrana_serve.proofs.EndLemmas.{early_replayed}
@@ -101,8 +101,8 @@ module _ {X D J O : Type 0} {told shared : Bool} {m : Meaning D BoundStmt Answer
   pub serial_explains : IsTrue told → WithJournal (noted journal) (noted journal') unsaved (λ entries. IsExplained shared m (db engine) (map entry_of entries) (db engine'))
   serial_explains t = with_journal (noted journal) (noted journal') o.taken unsaved (λ entries. IsExplained shared m (db engine) (map entry_of entries) (db engine')) o.grew (o.explained t)
 
-  pub output_exact : WithJournal (noted journal) (noted journal') unsaved (λ entries. IfSome left (λ script. HasWritten token shared (lines_of script) end count (written sink) (written sink') entries))
-  output_exact = by_script (λ entries script. HasWritten token shared (lines_of script) end count (written sink) (written sink') entries) (λ script r. record { story = r.story; is_story = r.is_story; writes = r.writes })
+  pub output_exact : WithJournal (noted journal) (noted journal') unsaved (λ entries. IfSome left (λ script. Replayed token shared (lines_of script) end count unsaved (written sink) (written sink') entries))
+  output_exact = by_script (λ entries script. Replayed token shared (lines_of script) end count unsaved (written sink) (written sink') entries) (λ script r. r)
 
   pub answered_is_journaled : WithJournal (noted journal) (noted journal') unsaved (λ entries. IfSome left (λ script. HasAnswered token shared (lines_of script) count unsaved (written sink) (written sink') entries))
   answered_is_journaled = by_script (λ entries script. HasAnswered token shared (lines_of script) count unsaved (written sink) (written sink') entries) (λ script r. record { story = r.story; is_story = r.is_story; answers = r.answers })

@@ -43,12 +43,6 @@ pub record HasStory (token : Option (List ℕ)) (shared : Bool) (all : List (Lis
   pub is_story : IsStoryOf token shared all count J story
   pub stops : StopsAs end story.lines all story.state
 
--- there is one whose outs were written as far as the status says
-pub record HasWritten (token : Option (List ℕ)) (shared : Bool) (all : List (List ℕ)) (end : Status) (count : ℕ) (held holds : Option (List ℕ)) (J : List Entry) : Type 0 where
-  pub story : Story
-  pub is_story : IsStoryOf token shared all count J story
-  pub writes : WritesAs end story.outs held holds
-
 -- there is one in which no entry of an event whose outs were written is unsaved
 pub record HasAnswered (token : Option (List ℕ)) (shared : Bool) (all : List (List ℕ)) (count : ℕ) (unsaved : List Entry) (held holds : Option (List ℕ)) (J : List Entry) : Type 0 where
   pub story : Story

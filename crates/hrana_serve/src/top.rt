@@ -13,7 +13,7 @@ ghost use Rattle.hrana_hub.specs.Laws.{DeadAddNothing};
 ghost use Rattle.hrana_serve.specs.Clauses.{WithJournal};
 ghost use Rattle.hrana_serve.specs.Outcome.{Outcome, IsEarly, LeavesBy};
 ghost use Rattle.hrana_serve.specs.Replay.{IsLinesStatus};
-ghost use Rattle.hrana_serve.specs.Story.{HasStory, HasWritten, HasAnswered, HasReplies, IsFirstBad};
+ghost use Rattle.hrana_serve.specs.Story.{HasStory, HasAnswered, HasReplies, IsFirstBad, Replayed};
 ghost use Rattle.hrana_serve.specs.Words.{AsksReplay, texts_of, token_in};
 
 use crate::replay::{play_lines, stop};
@@ -195,9 +195,9 @@ pub fn hrana<I: Source, O: Sink, E: Engine, J: Journal>(
     // No transaction is live at the end.
     ensures quiet { NoneLive (E.live world.new.engine) }
 
-    // What was written is what the outs of the events are printed as: all of it, or a front.
+    // What was written is what the outs of the events are printed as, all of it or a front, in one story that ends as the status says.
     ensures output_exact { WithJournal (J.noted world.old.journal) (J.noted world.new.journal) result.unsaved.items (λ entries. IfSome (I.left world.old.source) (λ script.
-        HasWritten (token_in (texts_of words.now)) E.SHARED (lines_of script) result.status result.events (O.written world.old.sink) (O.written world.new.sink) entries)) }
+        Replayed (token_in (texts_of words.now)) E.SHARED (lines_of script) result.status result.events result.unsaved.items (O.written world.old.sink) (O.written world.new.sink) entries)) }
 
     // The journal took each entry of an event whose outs were written.
     ensures answered_is_journaled { WithJournal (J.noted world.old.journal) (J.noted world.new.journal) result.unsaved.items (λ entries. IfSome (I.left world.old.source) (λ script.
