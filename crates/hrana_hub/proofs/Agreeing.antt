@@ -19,15 +19,16 @@ use Rattle.hrana_hub.proofs.Waiting.{known_put}
 
 -- ---- equal states
 
-pub state_is : (a b : State) → a.conns ≡ b.conns → a.streams ≡ b.streams → a.opened ≡ b.opened → a.next ≡ b.next → a.version ≡ b.version → a.events ≡ b.events → a.stopped ≡ b.stopped → a ≡ b
-state_is a b c d e f g h i =
-    ap (λ x. record { conns = x; streams = a.streams; opened = a.opened; next = a.next; version = a.version; events = a.events; stopped = a.stopped }) c
-    ∙ ap (λ x. record { conns = b.conns; streams = x; opened = a.opened; next = a.next; version = a.version; events = a.events; stopped = a.stopped }) d
-    ∙ ap (λ x. record { conns = b.conns; streams = b.streams; opened = x; next = a.next; version = a.version; events = a.events; stopped = a.stopped }) e
-    ∙ ap (λ x. record { conns = b.conns; streams = b.streams; opened = b.opened; next = x; version = a.version; events = a.events; stopped = a.stopped }) f
-    ∙ ap (λ x. record { conns = b.conns; streams = b.streams; opened = b.opened; next = b.next; version = x; events = a.events; stopped = a.stopped }) g
-    ∙ ap (λ x. record { conns = b.conns; streams = b.streams; opened = b.opened; next = b.next; version = b.version; events = x; stopped = a.stopped }) h
-    ∙ ap (λ x. record { conns = b.conns; streams = b.streams; opened = b.opened; next = b.next; version = b.version; events = b.events; stopped = x }) i
+pub state_is : (a b : State) → a.conns ≡ b.conns → a.streams ≡ b.streams → a.opened ≡ b.opened → a.next ≡ b.next → a.version ≡ b.version → a.events ≡ b.events → a.now ≡ b.now → a.stopped ≡ b.stopped → a ≡ b
+state_is a b c d e f g h j i =
+    ap (λ x. record { conns = x; streams = a.streams; opened = a.opened; next = a.next; version = a.version; events = a.events; now = a.now; stopped = a.stopped }) c
+    ∙ ap (λ x. record { conns = b.conns; streams = x; opened = a.opened; next = a.next; version = a.version; events = a.events; now = a.now; stopped = a.stopped }) d
+    ∙ ap (λ x. record { conns = b.conns; streams = b.streams; opened = x; next = a.next; version = a.version; events = a.events; now = a.now; stopped = a.stopped }) e
+    ∙ ap (λ x. record { conns = b.conns; streams = b.streams; opened = b.opened; next = x; version = a.version; events = a.events; now = a.now; stopped = a.stopped }) f
+    ∙ ap (λ x. record { conns = b.conns; streams = b.streams; opened = b.opened; next = b.next; version = x; events = a.events; now = a.now; stopped = a.stopped }) g
+    ∙ ap (λ x. record { conns = b.conns; streams = b.streams; opened = b.opened; next = b.next; version = b.version; events = x; now = a.now; stopped = a.stopped }) h
+    ∙ ap (λ x. record { conns = b.conns; streams = b.streams; opened = b.opened; next = b.next; version = b.version; events = b.events; now = x; stopped = a.stopped }) j
+    ∙ ap (λ x. record { conns = b.conns; streams = b.streams; opened = b.opened; next = b.next; version = b.version; events = b.events; now = b.now; stopped = x }) i
 
 -- ---- the states of the streams
 

@@ -30,10 +30,10 @@ module _ {D : Type 0} (shared : Bool) (m : Meaning D BoundStmt Answer) (db : D) 
   Stays first journal = HubStands shared m first journal db live old → HubStands shared m first journal db live new
 
   joined_stands : (c : ℕ) → JoinsStanding shared m → IsNumbered old.state → new.turns ≡ with_place old.turns (numbered (old.state.opened + 1)) → new.noted.next ≡ old.noted.next
-      → new.state.streams ≡ placed (old.state.opened + 1) (fresh c (old.state.opened + 1)) old.state.streams → (first : D) (journal : List Entry) → Stays first journal
+      → new.state.streams ≡ placed (old.state.opened + 1) (fresh old.state.now c (old.state.opened + 1)) old.state.streams → (first : D) (journal : List Entry) → Stays first journal
   joined_stands c joins numbers turns next streams first journal h =
       let n = old.state.opened + 1 in
-      let x = fresh c n in
+      let x = fresh old.state.now c n in
       let t = with_place old.turns (numbered n) in
       let free : at n old.state.streams ≡ None = numbers.opened n (omega arith) in
       let stands : StandsFor shared m first journal db live t old.noted.next (states_of (placed n x old.state.streams)) =

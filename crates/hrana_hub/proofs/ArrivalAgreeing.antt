@@ -43,7 +43,7 @@ use Rattle.hrana_hub.proofs.MapLemmas.{none_some, some_one, at_placed, at_placed
 pub data Moves (s s' : State) : Type 0 where
   keeps_all : s'.streams ≡ s.streams → s'.opened ≡ s.opened → Moves s s'
   puts_one : (n : ℕ) (x y : Stream) → at n s.streams ≡ Some x → y.task.stream ≡ x.task.stream → y.task.session.state ≡ x.task.session.state → s'.streams ≡ put n y s.streams → s'.opened ≡ s.opened → Moves s s'
-  adds_one : (c : ℕ) → s'.streams ≡ placed (s.opened + 1) (fresh c (s.opened + 1)) s.streams → s'.opened ≡ s.opened + 1 → Moves s s'
+  adds_one : (c : ℕ) → s'.streams ≡ placed (s.opened + 1) (fresh s.now c (s.opened + 1)) s.streams → s'.opened ≡ s.opened + 1 → Moves s s'
 
 pub record Arrived (s s' : State) : Type 0 where
   pub next : s'.next ≡ s.next
@@ -252,10 +252,10 @@ placed_states n x es = record { here = ap state_in (at_placed n x es); others = 
 known_placed : (n k : ℕ) (x : Stream) (es : Numbered Stream) → at n es ≡ None → IsSome (at k es) → IsSome (at k (placed n x es))
 known_placed n k x es none some = ap is_some (at_placed_other n k x es (λ here. true≢false (sym some ∙ ap is_some (ap (λ j. at j es) here ∙ none)))) ∙ some
 
-numbers_joined : (s s' : State) (c : ℕ) → IsNumbered s → s'.streams ≡ placed (s.opened + 1) (fresh c (s.opened + 1)) s.streams → s'.opened ≡ s.opened + 1 → IsNumbered s'
+numbers_joined : (s s' : State) (c : ℕ) → IsNumbered s → s'.streams ≡ placed (s.opened + 1) (fresh s.now c (s.opened + 1)) s.streams → s'.opened ≡ s.opened + 1 → IsNumbered s'
 numbers_joined s s' c h streams opened =
     let n = s.opened + 1 in
-    let x = fresh c n in
+    let x = fresh s.now c n in
     record {
       rising = subst (λ es. IsStrictlySortedBy nat_cmp (keys_of es)) (sym streams) (rises_placed n x s.streams h.rising);
       own = λ k z f. (let there : at k (placed n x s.streams) ≡ Some z = ap (at k) (sym streams) ∙ f in
@@ -270,10 +270,10 @@ numbers_joined s s' c h streams opened =
     }
 
 joined_agrees : {D : Type 0} (told shared : Bool) (db : D) (live : Lives D) (old new : Seen) (c : ℕ) → JoinsTogether D told shared → IsAhead old.state → HubAgrees told shared db live old → new.turns ≡ with_place old.turns (numbered (old.state.opened + 1)) → new.noted ≡ old.noted
-    → new.state.next ≡ old.state.next → new.state.version ≡ old.state.version → new.state.events ≡ old.state.events → new.state.streams ≡ placed (old.state.opened + 1) (fresh c (old.state.opened + 1)) old.state.streams → new.state.opened ≡ old.state.opened + 1 → HubAgrees told shared db live new
+    → new.state.next ≡ old.state.next → new.state.version ≡ old.state.version → new.state.events ≡ old.state.events → new.state.streams ≡ placed (old.state.opened + 1) (fresh old.state.now c (old.state.opened + 1)) old.state.streams → new.state.opened ≡ old.state.opened + 1 → HubAgrees told shared db live new
 joined_agrees {D} told shared db live old new c joins ahead a turns noted next version events streams opened =
     let n = old.state.opened + 1 in
-    let x = fresh c n in
+    let x = fresh old.state.now c n in
     let free : at n old.state.streams ≡ None = a.numbers.opened n (omega arith) in
     let together : Together told shared db live (with_place old.turns (numbered n)) old.noted.next (states_of (placed n x old.state.streams)) =
     joins db live old.turns old.noted.next (states_of old.state.streams) (states_of (placed n x old.state.streams)) (numbered n) a.together (ap state_in free) (has_placed (numbered n) old.turns.reserved) (placed_states n x old.state.streams) in

@@ -41,16 +41,16 @@ pub same_after : (old : Seen) → IsAfter old.state old old
 same_after old = record { state = refl; token = refl; noted = refl; turns = inl (refl, refl) }
 
 -- a hub, by its parts
-abbrev pub seen_as : Option (List ℕ) → Numbered Conn → Numbered Stream → ℕ → ℕ → Bool → Turns → Noted → Seen
-seen_as token conns streams opened events stopped turns noted =
-    record { token = token; state = record { conns = conns; streams = streams; opened = opened; next = noted.next; version = turns.version; events = events; stopped = stopped }; turns = turns; noted = noted }
+abbrev pub seen_as : Option (List ℕ) → Numbered Conn → Numbered Stream → ℕ → ℕ → ℕ → Bool → Turns → Noted → Seen
+seen_as token conns streams opened events now stopped turns noted =
+    record { token = token; state = record { conns = conns; streams = streams; opened = opened; next = noted.next; version = turns.version; events = events; now = now; stopped = stopped }; turns = turns; noted = noted }
 
 -- nothing changed but a place in the table of turns
-pub only_place : (token : Option (List ℕ)) (conns conns' : Numbered Conn) (streams streams' : Numbered Stream) (opened events : ℕ) (stopped : Bool) (t t' : Turns) (noted : Noted) (old : Seen)
-    → seen_as token conns streams opened events stopped t noted ≡ old → conns' ≡ conns → streams' ≡ streams → t' ≡ with_place t (numbered (opened + 1)) → IsAfter old.state old (seen_as token conns' streams' opened events stopped t' noted)
-only_place token conns conns' streams streams' opened events stopped t t' noted old e p q r =
-    let state : Numbered Conn → Numbered Stream → ℕ → State = λ c s v. record { conns = c; streams = s; opened = opened; next = noted.next; version = v; events = events; stopped = stopped } in
-    subst (λ (h : Seen). IsAfter h.state h (seen_as token conns' streams' opened events stopped t' noted)) e (record {
+pub only_place : (token : Option (List ℕ)) (conns conns' : Numbered Conn) (streams streams' : Numbered Stream) (opened events now : ℕ) (stopped : Bool) (t t' : Turns) (noted : Noted) (old : Seen)
+    → seen_as token conns streams opened events now stopped t noted ≡ old → conns' ≡ conns → streams' ≡ streams → t' ≡ with_place t (numbered (opened + 1)) → IsAfter old.state old (seen_as token conns' streams' opened events now stopped t' noted)
+only_place token conns conns' streams streams' opened events now stopped t t' noted old e p q r =
+    let state : Numbered Conn → Numbered Stream → ℕ → State = λ c s v. record { conns = c; streams = s; opened = opened; next = noted.next; version = v; events = events; now = now; stopped = stopped } in
+    subst (λ (h : Seen). IsAfter h.state h (seen_as token conns' streams' opened events now stopped t' noted)) e (record {
       state = ap (λ c. state c streams' t'.version) p ∙ (ap (λ s. state conns s t'.version) q ∙ ap (λ (u : Turns). state conns streams u.version) r);
       token = refl;
       noted = refl;
@@ -58,11 +58,11 @@ only_place token conns conns' streams streams' opened events stopped t t' noted 
     })
 
 -- one connection changed
-pub conn_after : (c : ℕ) (k : Conn) (token : Option (List ℕ)) (conns conns' : Numbered Conn) (streams : Numbered Stream) (opened events : ℕ) (stopped : Bool) (t : Turns) (noted : Noted) (old : Seen)
-    → seen_as token conns streams opened events stopped t noted ≡ old → conns' ≡ put c k conns → IsAfter (with_conn c k old.state) old (seen_as token conns' streams opened events stopped t noted)
-conn_after c k token conns conns' streams opened events stopped t noted old e p =
-    subst (λ (h : Seen). IsAfter (with_conn c k h.state) h (seen_as token conns' streams opened events stopped t noted)) e (record {
-      state = ap (λ (cs : Numbered Conn). let s : State = record { conns = cs; streams = streams; opened = opened; next = noted.next; version = t.version; events = events; stopped = stopped } in s) p;
+pub conn_after : (c : ℕ) (k : Conn) (token : Option (List ℕ)) (conns conns' : Numbered Conn) (streams : Numbered Stream) (opened events now : ℕ) (stopped : Bool) (t : Turns) (noted : Noted) (old : Seen)
+    → seen_as token conns streams opened events now stopped t noted ≡ old → conns' ≡ put c k conns → IsAfter (with_conn c k old.state) old (seen_as token conns' streams opened events now stopped t noted)
+conn_after c k token conns conns' streams opened events now stopped t noted old e p =
+    subst (λ (h : Seen). IsAfter (with_conn c k h.state) h (seen_as token conns' streams opened events now stopped t noted)) e (record {
+      state = ap (λ (cs : Numbered Conn). let s : State = record { conns = cs; streams = streams; opened = opened; next = noted.next; version = t.version; events = events; now = now; stopped = stopped } in s) p;
       token = refl;
       noted = refl;
       turns = inl (refl, refl);

@@ -28,7 +28,7 @@ use Rattle.stream_task.specs.Polls.{is_waiting}
 use Rattle.stream_task.specs.declared.texts.StoredText.{StoredText}
 use Rattle.stream_task.specs.declared.work.Work.{Work}
 use Rattle.hrana_hub.specs.declared.events.Event.{Event}
-use Rattle.hrana_hub.specs.declared.events.Event.TheVariants.{Opened, Text, Binary, Lost, Poll, Stop}
+use Rattle.hrana_hub.specs.declared.events.Event.TheVariants.{Opened, Text, Binary, Lost, Moment, Poll, Stop}
 use Rattle.hrana_hub.specs.declared.limits.TheConstants.{MAX_CONNECTIONS, MAX_STREAMS, MAX_OUTSTANDING, MAX_STORED_TEXTS, MAX_STORED_BYTES, MAX_EVENTS}
 use Rattle.hrana_hub.specs.Maps.{at, id_at}
 use Rattle.hrana_hub.specs.State.{Conn, Stream, State}
@@ -36,7 +36,8 @@ use Rattle.hrana_hub.specs.Texts.{stored_bytes, without_text, put_text, put_stmt
 use Rattle.hrana_hub.specs.Arrivals.{Went, quiet, nothing, accepts, on_hello, greeted, shut, with_texts, with_conn, closing, opens, opens_unless, with_stream, unopened, asks, asks_at, queues, with_request, stores, stores_unless, is_full, on_request, on_numbered, if_greeted, on_answer}
 use Rattle.hrana_hub.specs.Polled.{Polled, PollFell}
 use Rattle.hrana_hub.specs.Ended.{ends_of, without_conn, all_ends, at_its_end}
-use Rattle.hrana_hub.specs.Step.{Step, Falls, Happens, Goes, ReadText, OpenText, Heard, PolledAt, LostAt, TextFell, PollFellAt, PollFellOn, is_short, counted, with_new_conn, has_room, may_send, is_unknown, may_come, fits}
+use Rattle.hrana_hub.specs.Moments.{expiries, at_moment}
+use Rattle.hrana_hub.specs.Step.{Step, Falls, Happens, Goes, ReadText, OpenText, Heard, PolledAt, LostAt, MomentAt, TextFell, PollFellAt, PollFellOn, is_short, counted, with_new_conn, has_room, may_send, is_unknown, may_come, fits}
 use Rattle.hrana_hub.specs.Stories.{told_by, text_in}
 
 -- ---- the kinds of changes
@@ -72,6 +73,7 @@ pub data Change (shared : Bool) (s : State) (added : List Entry) (out : Outs) (n
   polls : (stream : StreamNo) (x : Stream) (k : Conn) → at stream.0 s.streams ≡ Some x → is_waiting x.task.asks ≡ true → IsOpen s x.conn k → Polled shared s stream.0 x.conn x k added out new → Change shared s added out new (Poll stream)
   falls : (stream : StreamNo) (x : Stream) (k : Conn) → at stream.0 s.streams ≡ Some x → IsOpen s x.conn k → PollFell shared s stream.0 x.conn x k added out new → Change shared s added out new (Poll stream)
   loses : (c : ℕ) (k : Conn) → at c s.conns ≡ Some k → added ≡ ends_of undo.Lost k.streams s.streams → new ≡ without_conn c k s → Change shared s added out new (Lost c)
+  expires : (moment : ℕ) → added ≡ expiries moment s.streams → new ≡ at_moment moment s → Change shared s added out new (Moment moment)
   ends : added ≡ all_ends undo.Stop s.streams → new ≡ at_its_end s → Change shared s added out new Stop
 
 -- ---- what is silent
@@ -81,6 +83,7 @@ silent_nothing (Opened c) n = refl
 silent_nothing (Text c text) n = refl
 silent_nothing (Binary c) n = refl
 silent_nothing (Lost c) n = refl
+silent_nothing (Moment moment) n = refl
 silent_nothing Stop n = refl
 silent_nothing (Poll stream) n = by (nat_eq stream.0 n)
   where
@@ -328,12 +331,20 @@ module _ (shared : Bool) (s : State) (added : List Entry) (out : Outs) (new : St
   lost_changes c None e h = stays shared s added out new (Lost c) h
   lost_changes c (Some k) e h = loses c k e h.0 h.2
 
+  moment_changes : (moment : ℕ) → MomentAt s moment added out new → Changes (Moment moment)
+  moment_changes moment h = by (nat_lt moment s.now) h
+    where
+      by : (b : Bool) → MatchBool b (Goes (quiet s) added out new) ((added ≡ expiries moment s.streams) × (out ≡ nothing) × (new ≡ at_moment moment s)) → Changes (Moment moment)
+      by true g = stays shared s added out new (Moment moment) g
+      by false g = expires moment g.0 g.2
+
   happens : (token : Option (List ℕ)) (event : Event) → may_come s event ≡ true → Happens token shared s event added out new → Changes event
   happens token (Opened c) may h = opened_changes c false may h.none h.left
   happens token (Text c text) may h = text_changes token c text may h
   happens token (Binary c) may h = binary_changes c h
   happens token (Poll stream) may h = poll_changes stream (at stream.0 s.streams) refl h
   happens token (Lost c) may h = lost_changes c (at c s.conns) refl h
+  happens token (Moment moment) may h = moment_changes moment h
   happens token Stop may h = ends h.0 h.2
 
   falls_short : (event : Event) → may_come s event ≡ true → Falls shared s event added out new → Changes event
@@ -342,6 +353,7 @@ module _ (shared : Bool) (s : State) (added : List Entry) (out : Outs) (new : St
   falls_short (Binary c) may h = absurd h
   falls_short (Poll stream) may h = poll_falls stream (at stream.0 s.streams) refl h
   falls_short (Lost c) may h = absurd h
+  falls_short (Moment moment) may h = absurd h
   falls_short Stop may h = absurd h
 
   comes_changes : (token : Option (List ℕ)) (event : Event) (short : Bool) → may_come s event ≡ true → MatchBool short (Falls shared s event added out new) (Happens token shared s event added out new) → Changes event
@@ -353,6 +365,7 @@ may_counted s (Opened c) = refl
 may_counted s (Text c text) = refl
 may_counted s (Binary c) = refl
 may_counted s (Lost c) = refl
+may_counted s (Moment moment) = refl
 may_counted s (Poll stream) = refl
 may_counted s Stop = refl
 

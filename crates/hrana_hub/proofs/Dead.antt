@@ -1,5 +1,5 @@
 -- What is gone or dead stays so, and adds no entry.
-use Rattle.std.proofs.Common.{◌≡◌, ◌≤◌, ◌+◌, ℕ, ℤ, Bool, true, false, List, [], ◌∷◌, All, Option, None, Some, option_to_list, refl, sym, ap, ◌∙◌, subst, arith, inl, inr}
+use Rattle.std.proofs.Common.{◌≡◌, ◌≤◌, ◌+◌, ℕ, ℤ, Bool, true, false, cond, List, [], ◌∷◌, All, Option, None, Some, option_to_list, refl, sym, ap, ◌∙◌, subst, arith, inl, inr}
 use Rattle.std.proofs.lemmas.Bool.{cases_eq}
 use Rattle.std.proofs.lemmas.List.Elements.{All-nil, All-append, All-cons}
 use Rattle.stream_requests.specs.declared.asks.Ask.{Ask}
@@ -16,17 +16,19 @@ use Rattle.stream_task.specs.declared.session.TxnState.TheVariants.{Auto, Deferr
 use Rattle.stream_task.specs.declared.task.Poll.{Poll as Answer}
 use Rattle.stream_task.specs.declared.task.Stepped.{Stepped}
 use Rattle.hrana_hub.specs.declared.events.Event.{Event}
-use Rattle.hrana_hub.specs.declared.events.Event.TheVariants.{Opened, Text, Binary, Lost, Poll, Stop}
-use Rattle.hrana_hub.specs.Maps.{Numbered, at, put, placed, without}
+use Rattle.hrana_hub.specs.declared.events.Event.TheVariants.{Opened, Text, Binary, Lost, Moment, Poll, Stop}
+use Rattle.hrana_hub.specs.Maps.{Numbered, at, put, placed, without, each}
 use Rattle.hrana_hub.specs.State.{Stream, State}
 use Rattle.hrana_hub.specs.Arrivals.{fresh, waiting}
 use Rattle.hrana_hub.specs.Polled.{reply_in, is_over, polled, streams_left, dropped}
 use Rattle.hrana_hub.specs.Ended.{end_of, ends_of, all_ends, let_go}
+use Rattle.hrana_hub.specs.Moments.{is_due, expired, after, expiries}
 use Rattle.hrana_hub.specs.Run.{RunFrom, start, more}
 use Rattle.hrana_hub.specs.Step.{counted}
 use Rattle.hrana_hub.specs.Laws.{IsUndone, is_dead, MayAdd, DeadAddNothing}
-use Rattle.hrana_hub.proofs.Changes.{Change, rests, comes, marks, joins, asks_for, polls, falls, loses, ends, step_changes}
+use Rattle.hrana_hub.proofs.Changes.{Change, rests, comes, marks, joins, asks_for, polls, falls, loses, expires, ends, step_changes}
 use Rattle.hrana_hub.proofs.EntryLemmas.{at_put, at_put_other, at_without, at_without_other, rising_without}
+use Rattle.hrana_hub.proofs.Expiring.{at_each, at_each_none}
 use Rattle.hrana_hub.proofs.Kept.{Kept, counted_kept, from_kept, run_kept}
 use Rattle.hrana_hub.proofs.MapLemmas.{none_some, at_placed_other, Rises}
 
@@ -35,8 +37,9 @@ use Rattle.hrana_hub.proofs.MapLemmas.{none_some, at_placed_other, Rises}
 record Lasts (shared : Bool) (P : Option Stream → Type 0) : Type 0 where
   none : P None
   asked : (x : Stream) (id : ℤ) (what : Ask) → P (Some x) → P (Some (waiting id what x))
-  told : (seen : Sees) (x : Stream) (added : Option Entry) (result : Answer Stepped) (task : Task) → Polls shared seen x.task added result task → P (Some x) → P (Some (polled (reply_in result) task x))
+  told : (now : ℕ) (seen : Sees) (x : Stream) (added : Option Entry) (result : Answer Stepped) (task : Task) → Polls shared seen x.task added result task → P (Some x) → P (Some (polled now (reply_in result) task x))
   fell : (seen : Sees) (x : Stream) (added : Option Entry) (result : Answer Stepped) (task : Task) → Polls shared seen x.task added result task → P (Some x) → P (Some (dropped task x))
+  dies : (x : Stream) → P (Some x) → P (Some (expired x))
 
 module _ (shared : Bool) (P : Option Stream → Type 0) (lasts : Lasts shared P) (n : ℕ) where
   put_lasts : (m : ℕ) (x y : Stream) (es : Numbered Stream) → at m es ≡ Some x → (P (Some x) → P (Some y)) → P (at n es) → P (at n (put m y es))
@@ -59,18 +62,33 @@ module _ (shared : Bool) (P : Option Stream → Type 0) (lasts : Lasts shared P)
   left_lasts true m x y es r there keeps h = without_lasts m es r h
   left_lasts false m x y es r there keeps h = put_lasts m x y es there keeps h
 
+  after_lasts : (moment : ℕ) (x : Stream) → P (Some x) → P (Some (after moment x))
+  after_lasts moment x h = by (is_due moment x)
+    where
+      by : (b : Bool) → P (Some (cond b (expired x) x))
+      by true = lasts.dies x h
+      by false = h
+
+  each_lasts : (moment : ℕ) (es : Numbered Stream) → P (at n es) → P (at n (each (after moment) es))
+  each_lasts moment es h = by (at n es) refl h
+    where
+      by : (o : Option Stream) → at n es ≡ o → P o → P (at n (each (after moment) es))
+      by None e p = subst P (sym (at_each_none (after moment) n es e)) p
+      by (Some x) e p = subst P (sym (at_each (after moment) n x es e)) (after_lasts moment x p)
+
   change_lasts : {event : Event} (s : State) (added : List Entry) (out : Outs) (new : State) → Kept s → n ≤ s.opened → P (at n s.streams) → Change shared s added out new event → P (at n new.streams)
   change_lasts s added out new k l h (rests event none silent left) = subst (λ (t : State). P (at n t.streams)) (sym left) h
   change_lasts s added out new k l h (comes c closing none unknown few left) = subst (λ (t : State). P (at n t.streams)) (sym left) h
   change_lasts s added out new k l h (marks event c j j' none silent heard marked left) = subst (λ (t : State). P (at n t.streams)) (sym left) h
   change_lasts s added out new k l h (joins c text j id none heard unnamed few left) =
-      let after : at n (placed (s.opened + 1) (fresh c (s.opened + 1)) s.streams) ≡ at n s.streams = at_placed_other (s.opened + 1) n (fresh c (s.opened + 1)) s.streams (λ same. omega (arith, l, same)) in
+      let after : at n (placed (s.opened + 1) (fresh s.now c (s.opened + 1)) s.streams) ≡ at n s.streams = at_placed_other (s.opened + 1) n (fresh s.now c (s.opened + 1)) s.streams (λ same. omega (arith, l, same)) in
       subst (λ (t : State). P (at n t.streams)) (sym left) (subst P (sym after) h)
   change_lasts s added out new k l h (asks_for c text j stream m x id what w none heard few named known served left) = subst (λ (t : State). P (at n t.streams)) (sym left) (put_lasts m x (waiting id what x) s.streams known (lasts.asked x id what) h)
   change_lasts s added out new k l h (polls stream x j known waits heard p) = subst (λ (t : State). P (at n t.streams)) (sym p.left)
-      (left_lasts (is_over (reply_in p.result) p.task) stream.0 x (polled (reply_in p.result) p.task x) s.streams k.streams_rise known (lasts.told _ x p.entry p.result p.task p.polls) h)
+      (left_lasts (is_over (reply_in p.result) p.task) stream.0 x (polled s.now (reply_in p.result) p.task x) s.streams k.streams_rise known (lasts.told s.now _ x p.entry p.result p.task p.polls) h)
   change_lasts s added out new k l h (falls stream x j known heard p) = subst (λ (t : State). P (at n t.streams)) (sym p.left) (put_lasts stream.0 x (dropped p.task x) s.streams known (lasts.fell _ x p.entry p.result p.task p.polls) h)
   change_lasts s added out new k l h (loses c j known ended left) = subst (λ (t : State). P (at n t.streams)) (sym left) (let_go_lasts j.streams s.streams k.streams_rise h)
+  change_lasts s added out new k l h (expires moment ended left) = subst (λ (t : State). P (at n t.streams)) (sym left) (each_lasts moment s.streams h)
   change_lasts s added out new k l h (ends ended left) = subst (λ (t : State). P (at n t.streams)) (sym left) lasts.none
 
 -- ---- numbers are given out once
@@ -87,6 +105,7 @@ change_opened shared s added out new (asks_for c text j stream m x id what w non
 change_opened shared s added out new (polls stream x j known waits heard p) = same_opened s new (ap (λ (t : State). t.opened) p.left)
 change_opened shared s added out new (falls stream x j known heard p) = same_opened s new (ap (λ (t : State). t.opened) p.left)
 change_opened shared s added out new (loses c j known ended left) = same_opened s new (ap (λ (t : State). t.opened) left)
+change_opened shared s added out new (expires moment ended left) = same_opened s new (ap (λ (t : State). t.opened) left)
 change_opened shared s added out new (ends ended left) = same_opened s new (ap (λ (t : State). t.opened) left)
 
 from_opened : {token : Option (List ℕ)} {shared : Bool} {first : State} {events : List Event} {entries : List (List Entry)} {outs : List Outs} {s : State} → RunFrom token shared first events entries outs s → first.opened ≤ s.opened
@@ -107,16 +126,18 @@ gone_lasts : (shared : Bool) → Lasts shared (λ o. o ≡ None)
 gone_lasts shared = record {
   none = refl;
   asked = λ x id what e. absurd (none_some (sym e));
-  told = λ seen x added result task p e. absurd (none_some (sym e));
+  told = λ now seen x added result task p e. absurd (none_some (sym e));
   fell = λ seen x added result task p e. absurd (none_some (sym e));
+  dies = λ x e. absurd (none_some (sym e));
 }
 
 dead_lasts : ShutAddsNothing → (shared : Bool) → Lasts shared (λ o. is_dead o ≡ true)
 dead_lasts law shared = record {
   none = refl;
   asked = λ x id what e. e;
-  told = λ seen x added result task p e. (law shared seen x.task added result task e p).1;
+  told = λ now seen x added result task p e. (law shared seen x.task added result task e p).1;
   fell = λ seen x added result task p e. (law shared seen x.task added result task e p).1;
+  dies = λ x e. refl;
 }
 
 -- ---- what events add
@@ -141,11 +162,20 @@ all_undone : (why : Undo) (es : Numbered Stream) → All IsUndone (all_ends why 
 all_undone why [] = All-nil IsUndone
 all_undone why (e ∷ es) = All-append IsUndone _ _ (end_undone why (Some e.1)) (all_undone why es)
 
+expiries_undone : (moment : ℕ) (es : Numbered Stream) → All IsUndone (expiries moment es)
+expiries_undone moment [] = All-nil IsUndone
+expiries_undone moment (e ∷ es) = All-append IsUndone _ _ (by (is_due moment e.1)) (expiries_undone moment es)
+  where
+    by : (b : Bool) → All IsUndone (cond b (end_of undo.Expired (Some e.1)) [])
+    by true = end_undone undo.Expired (Some e.1)
+    by false = All-nil IsUndone
+
 none_adds : (s : State) (event : Event) (added : List Entry) → added ≡ [] → MayAdd s event added
 none_adds s (Poll stream) added e = λ dead. e
 none_adds s (Opened c) added e = subst (All IsUndone) (sym e) (All-nil IsUndone)
 none_adds s (Text c text) added e = subst (All IsUndone) (sym e) (All-nil IsUndone)
 none_adds s (Binary c) added e = subst (All IsUndone) (sym e) (All-nil IsUndone)
+none_adds s (Moment moment) added e = subst (All IsUndone) (sym e) (All-nil IsUndone)
 none_adds s (Lost c) added e = subst (All IsUndone) (sym e) (All-nil IsUndone)
 none_adds s Stop added e = subst (All IsUndone) (sym e) (All-nil IsUndone)
 
@@ -158,12 +188,14 @@ change_adds law shared s added out new (asks_for c text j stream m x id what w n
 change_adds law shared s added out new (polls stream x j known waits heard p) = λ dead. p.one ∙ ap (λ o. option_to_list o) (law shared _ x.task p.entry p.result p.task (sym (ap is_dead known) ∙ dead) p.polls).0
 change_adds law shared s added out new (falls stream x j known heard p) = λ dead. p.one ∙ ap (λ o. option_to_list o) (law shared _ x.task p.entry p.result p.task (sym (ap is_dead known) ∙ dead) p.polls).0
 change_adds law shared s added out new (loses c j known ended left) = subst (All IsUndone) (sym ended) (ends_undone undo.Lost j.streams s.streams)
+change_adds law shared s added out new (expires moment ended left) = subst (All IsUndone) (sym ended) (expiries_undone moment s.streams)
 change_adds law shared s added out new (ends ended left) = subst (All IsUndone) (sym ended) (all_undone undo.Stop s.streams)
 
 step_adds : ShutAddsNothing → (token : Option (List ℕ)) (shared : Bool) (s : State) (event : Event) (added : List Entry) (out : Outs) (new : State) → Change shared (counted s) added out new event → MayAdd s event added
 step_adds law token shared s (Opened c) added out new change = change_adds law shared (counted s) added out new change
 step_adds law token shared s (Text c text) added out new change = change_adds law shared (counted s) added out new change
 step_adds law token shared s (Binary c) added out new change = change_adds law shared (counted s) added out new change
+step_adds law token shared s (Moment moment) added out new change = change_adds law shared (counted s) added out new change
 step_adds law token shared s (Lost c) added out new change = change_adds law shared (counted s) added out new change
 step_adds law token shared s (Poll stream) added out new change = change_adds law shared (counted s) added out new change
 step_adds law token shared s Stop added out new change = change_adds law shared (counted s) added out new change

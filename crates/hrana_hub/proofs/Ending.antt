@@ -1,5 +1,5 @@
 -- The end of a stream, and of many one after another.
-use Rattle.std.proofs.Common.{◌≡◌, ◌≤◌, ◌<◌, ◌+◌, ℕ, Bool, true, false, List, [], ◌∷◌, ◌++◌, length, take, drop, get_or, Option, None, Some, option_to_list, refl, sym, ap, ◌∙◌, subst, arith, append-nil, append_assoc, nat_cmp, IsTrue, is_some, true≢false, inl, inr}
+use Rattle.std.proofs.Common.{◌≡◌, ◌≢◌, ◌≤◌, ◌<◌, ◌+◌, ℕ, Bool, true, false, List, [], ◌∷◌, ◌++◌, length, take, drop, get_or, Option, None, Some, option_to_list, refl, sym, ap, ◌∙◌, subst, arith, append-nil, append_assoc, nat_cmp, IsTrue, is_some, true≢false, inl, inr}
 use Rattle.std.specs.Option.{IsSome}
 use Rattle.std.specs.List.{All}
 use Rattle.std.specs.List.Sorted.{IsStrictlySortedBy}
@@ -21,20 +21,20 @@ use Rattle.stream_task.specs.Adds.{undone_of, next_by}
 use Rattle.stream_task.specs.Leads.{EndsLead}
 use Rattle.stream_task.specs.Moved.{version_by, Rests}
 use Rattle.stream_task.specs.Session.{open_of}
-use Rattle.stream_task.specs.Together.{AgreesAt, Put, HasEnded, EndsTogether, EachMayPoll, MayPoll, numbered}
+use Rattle.stream_task.specs.Together.{AgreesAt, Put, HasEnded, EndsTogether, EachMayPoll, MayPoll, is_open, numbered}
 use Rattle.stream_task.specs.declared.session.TxnState.{TxnState}
 use Rattle.stream_task.specs.declared.session.TxnState.TheVariants.{Auto, Deferred, Reading, Writing, Dead, Closed}
 use Rattle.hrana_hub.specs.Maps.{Numbered, at, without}
 use Rattle.hrana_hub.specs.State.{Conn, Stream, State, Seen, states_of, state_in}
 use Rattle.hrana_hub.specs.Adds.{Adds, LeadsOn}
-use Rattle.hrana_hub.specs.Agrees.{HubAgrees, open_units, HubStands}
+use Rattle.hrana_hub.specs.Agrees.{HubAgrees, IsNumbered, open_units, HubStands}
 use Rattle.hrana_hub.specs.Ended.{end_of, ends_of, let_go, without_conn, all_ends, at_its_end, HasLeft, IsGone, Frees}
 use Rattle.hrana_hub.specs.Arrivals.{nothing}
 use Rattle.hrana_hub.specs.Polled.{with_streams}
 use Rattle.hrana_hub.specs.Step.{LostAt}
 use Rattle.hrana_hub.proofs.Adding.{adds_one}
 use Rattle.hrana_hub.proofs.EntryLemmas.{at_first, without_first, without_unknown, at_without, at_without_other, rising_without}
-use Rattle.hrana_hub.proofs.Waiting.{has_gone, waiters_without}
+use Rattle.hrana_hub.proofs.Waiting.{has_gone, waits_on}
 use Rattle.hrana_hub.proofs.Agreeing.{without_states, numbers_without, units_without}
 
 -- ---- the stream that stands at a number
@@ -74,51 +74,65 @@ version_undone why Closed v = refl
 
 -- ---- one end
 
--- what the end of the stream at a number did
-pub record EndDid {X D : Type 0} (told shared : Bool) (m : Meaning D BoundStmt Answer) (db : X → D) (live : X → Lives D) (faults : X → ℕ) (engine engine' : X) (why : Undo) (n : ℕ) (x : Stream) (old new : Seen) : Type 0 where
+-- what the end of the stream at a number did, of which this is left
+pub record EndDid {X D : Type 0} (told shared : Bool) (m : Meaning D BoundStmt Answer) (db : X → D) (live : X → Lives D) (faults : X → ℕ) (engine engine' : X) (why : Undo) (n : ℕ) (x : Stream) (left : Option TxnState) (old new : Seen) : Type 0 where
   pub agrees : HubAgrees told shared (db engine) (live engine) old
   pub known : at n old.state.streams ≡ Some x
   pub ended : HasEnded told shared m db live faults engine engine' old.turns new.turns old.noted new.noted x.task why
   pub spare : new.noted.spare + open_of x.task.session.state ≡ old.noted.spare
-  pub conns : new.state.conns ≡ old.state.conns
-  pub streams : new.state.streams ≡ without n old.state.streams
+  pub shut : is_open left ≡ false
+  pub states : Put (states_of old.state.streams) (states_of new.state.streams) n left
+  pub others : (k : ℕ) → k ≢ n → IsSome (at k old.state.streams) → IsSome (at k new.state.streams)
+  pub numbers : IsNumbered new.state
+  pub units : open_units new.state.streams + open_of x.task.session.state ≡ open_units old.state.streams
   pub opened : new.state.opened ≡ old.state.opened
   pub next : new.state.next ≡ new.noted.next
   pub version : new.state.version ≡ new.turns.version
   pub events : new.state.events ≡ old.state.events
-  pub stopped : new.state.stopped ≡ old.state.stopped
 
-module _ {X D : Type 0} (told shared : Bool) (m : Meaning D BoundStmt Answer) (db : X → D) (live : X → Lives D) (faults : X → ℕ) (engine engine' : X) (why : Undo) (n : ℕ) (x : Stream) (old new : Seen) (did : EndDid told shared m db live faults engine engine' why n x old new) where
-  same_next : new.noted.next ≡ old.noted.next
+-- a stream that is shut doesn't hold the turn, nor does one that is gone
+shut_turn : {D : Type 0} (told : Bool) (db : D) (live : Lives D) (t : Turns) (n : ℕ) (o : Option TxnState) → is_open o ≡ false → AgreesAt told db live t n o → t.turn ≢ Some (numbered n)
+shut_turn told db live t n None e h = h
+shut_turn told db live t n (Some (Dead cause)) e h = h
+shut_turn told db live t n (Some Closed) e h = h
+shut_turn told db live t n (Some Auto) e h = absurd (true≢false e)
+shut_turn told db live t n (Some Deferred) e h = absurd (true≢false e)
+shut_turn told db live t n (Some (Reading unit had)) e h = absurd (true≢false e)
+shut_turn told db live t n (Some (Writing unit)) e h = absurd (true≢false e)
+
+module _ {X D : Type 0} (told shared : Bool) (m : Meaning D BoundStmt Answer) (db : X → D) (live : X → Lives D) (faults : X → ℕ) (engine engine' : X) (why : Undo) (n : ℕ) (x : Stream) (left : Option TxnState) (old new : Seen) (did : EndDid told shared m db live faults engine engine' why n x left old new) where
+  pub same_next : new.noted.next ≡ old.noted.next
   same_next = did.ended.ends.adds.next ∙ ap (next_by old.noted.next) did.ended.ends.adds.holds ∙ next_undone why x.task.session.state old.noted.next
 
-  same_version : new.turns.version ≡ old.turns.version
+  pub same_version : new.turns.version ≡ old.turns.version
   same_version =
       let a = did.ended.ends.adds in
       ap (λ (t : Turns). t.version) did.ended.ends.lost ∙ a.moved.version ∙ ap (λ e. version_by e old.turns.version) a.holds ∙ version_undone why x.task.session.state old.turns.version
 
-  -- the states of the streams, without that of its number
-  states_left : Put (states_of old.state.streams) (states_of new.state.streams) x.task.stream.0 None
-  states_left =
-      let put : Put (states_of old.state.streams) (states_of new.state.streams) n None = subst (λ es. Put (states_of old.state.streams) (states_of es) n None) (sym did.streams) (without_states n old.state.streams did.agrees.numbers.rising) in
-      subst (λ k. Put (states_of old.state.streams) (states_of new.state.streams) k None) (sym (number_of told shared (db engine) (live engine) old n x did.agrees did.known)) put
+  -- the states of the streams, with what is left at its number
+  states_left : Put (states_of old.state.streams) (states_of new.state.streams) x.task.stream.0 left
+  states_left = subst (λ k. Put (states_of old.state.streams) (states_of new.state.streams) k left) (sym (number_of told shared (db engine) (live engine) old n x did.agrees did.known)) did.states
 
   its_state : states_of old.state.streams x.task.stream.0 ≡ Some x.task.session.state
   its_state = state_at told shared (db engine) (live engine) old n x did.agrees did.known
 
+  -- who waits now is another one, and waited before
+  pub end_waits : (k : ℕ) → has (numbered k) new.turns.waiters ≡ true → (k ≢ n) × (has (numbered k) old.turns.waiters ≡ true)
+  end_waits k w =
+      let ends = did.ended.ends in
+      let own = did.agrees.numbers.own n x did.known in
+      waits_on n k ends.adds.added old.turns ends.between new.turns (subst (λ s. Rests s false ends.adds.added old.turns ends.between) own ends.adds.moved.rests) (ends.lost ∙ ap (after_loss ends.between) own) w
+
   pub end_agrees : EndsTogether told shared m db live faults → HubAgrees told shared (db engine') (live engine') new
   end_agrees law =
       let h = did.agrees in
-      let ends = did.ended.ends in
-      let own = h.numbers.own n x did.known in
       record {
-        together = law engine engine' old.turns new.turns old.noted new.noted x.task why None (states_of old.state.streams) (states_of new.state.streams) h.together its_state did.ended refl states_left;
-        waiters = λ k w. subst (λ es. IsSome (at k es)) (sym did.streams)
-            (waiters_without n old.state.streams ends.adds.added old.turns ends.between new.turns h.numbers.rising (subst (λ s. Rests s false ends.adds.added old.turns ends.between) own ends.adds.moved.rests) (ends.lost ∙ ap (after_loss ends.between) own) h.waiters k w);
-        numbers = numbers_without old.state new.state n did.streams did.opened h.numbers;
+        together = law engine engine' old.turns new.turns old.noted new.noted x.task why left (states_of old.state.streams) (states_of new.state.streams) h.together its_state did.ended did.shut states_left;
+        waiters = λ k w. (let was = end_waits k w in did.others k was.0 (h.waiters k was.1));
+        numbers = did.numbers;
         version = did.version;
         next = did.next;
-        places = (let units = units_without n x old.state.streams did.known in let left = ap open_units did.streams in omega (arith, units, left, did.spare, h.places));
+        places = omega (arith, did.units, did.spare, h.places);
         counts = record {
           streams = omega (arith, did.opened, did.events, h.counts.streams);
           units = (let e : new.state.next ≡ old.state.next = did.next ∙ same_next ∙ sym h.next in omega (arith, e, did.events, h.counts.units));
@@ -129,19 +143,36 @@ module _ {X D : Type 0} (told shared : Bool) (m : Meaning D BoundStmt Answer) (d
   end_leads : EndsLead told shared m db live faults → IsTrue told → LeadsOn shared m (db engine) (live engine) (db engine') (live engine') old new (option_to_list did.ended.ends.adds.added)
   end_leads law sure first journal h =
       subst (λ e. HubStands shared m first (journal ++ option_to_list e) (db engine') (live engine') new) (sym did.ended.ends.adds.holds)
-      (law engine engine' old.turns new.turns old.noted new.noted x.task why None (states_of old.state.streams) (states_of new.state.streams) sure did.agrees.together its_state did.ended refl states_left first journal h)
+      (law engine engine' old.turns new.turns old.noted new.noted x.task why left (states_of old.state.streams) (states_of new.state.streams) sure did.agrees.together its_state did.ended did.shut states_left first journal h)
 
   pub end_adds : EndsLead told shared m db live faults → Adds told shared m db live faults engine engine' old new (λ added. added ≡ end_of why (at n old.state.streams))
   end_adds law = adds_one x.task.stream engine engine' old.turns did.ended.ends.between old new false _ _ did.ended.ends.adds (end_leads law) (ap option_to_list did.ended.ends.adds.holds ∙ ap (end_of why) (sym did.known))
 
   pub end_leaves : HubAgrees told shared (db engine') (live engine') new → HasLeft new.turns (numbered n)
-  end_leaves after =
+  end_leaves now =
       let lost : new.turns ≡ after_loss did.ended.ends.between (numbered n) = did.ended.ends.lost ∙ ap (after_loss did.ended.ends.between) (did.agrees.numbers.own n x did.known) in
       record {
-        turn = (let none : states_of new.state.streams n ≡ None = ap (λ es. states_of es n) did.streams ∙ (without_states n old.state.streams did.agrees.numbers.rising).here in subst (λ o. AgreesAt told (db engine') (live engine') new.turns n o) none (after.together.agree n));
+        turn = shut_turn told (db engine') (live engine') new.turns n left did.shut (subst (λ o. AgreesAt told (db engine') (live engine') new.turns n o) did.states.here (now.together.agree n));
         waits = ap (λ (t : Turns). has (numbered n) t.waiters) lost ∙ has_gone (numbered n) did.ended.ends.between.waiters;
         place = ap (λ (t : Turns). has (numbered n) t.reserved) lost ∙ has_gone (numbered n) did.ended.ends.between.reserved;
       }
+
+-- ---- what is left of the stream
+
+-- it is gone
+pub record IsLetGo (n : ℕ) (x : Stream) (old new : State) : Type 0 where
+  pub states : Put (states_of old.streams) (states_of new.streams) n None
+  pub others : (k : ℕ) → k ≢ n → IsSome (at k old.streams) → IsSome (at k new.streams)
+  pub numbers : IsNumbered new
+  pub units : open_units new.streams + open_of x.task.session.state ≡ open_units old.streams
+
+pub let_go_of : (n : ℕ) (x : Stream) (old new : State) → IsNumbered old → at n old.streams ≡ Some x → new.streams ≡ without n old.streams → new.opened ≡ old.opened → IsLetGo n x old new
+let_go_of n x old new h known streams opened = record {
+  states = subst (λ es. Put (states_of old.streams) (states_of es) n None) (sym streams) (without_states n old.streams h.rising);
+  others = λ k ne some. ap is_some (ap (at k) streams ∙ at_without_other n k old.streams h.rising ne) ∙ some;
+  numbers = numbers_without old new n streams opened h;
+  units = (let units = units_without n x old.streams known in let left = ap open_units streams in omega (arith, units, left));
+}
 
 -- ---- the first of all
 
@@ -182,16 +213,16 @@ gone_more numbers i all es rest l is e = e ∙ at_drop_more (λ ns. let_go ns es
 -- ---- a connection that isn't known
 
 pub lost_unknown : (s : State) (c : ℕ) (conns : Numbered Conn) (out : Outs) → at c s.conns ≡ None → conns ≡ without c s.conns → out ≡ nothing
-    → LostAt s c (at c s.conns) [] out (record { conns = conns; streams = s.streams; opened = s.opened; next = s.next; version = s.version; events = s.events; stopped = s.stopped })
+    → LostAt s c (at c s.conns) [] out (record { conns = conns; streams = s.streams; opened = s.opened; next = s.next; version = s.version; events = s.events; now = s.now; stopped = s.stopped })
 lost_unknown s c conns out unknown is given =
     let same : conns ≡ s.conns = is ∙ without_unknown c s.conns unknown in
-    subst (λ o. LostAt s c o [] out (record { conns = conns; streams = s.streams; opened = s.opened; next = s.next; version = s.version; events = s.events; stopped = s.stopped })) (sym unknown)
-    (record { none = refl; given = given; left = ap (λ x. record { conns = x; streams = s.streams; opened = s.opened; next = s.next; version = s.version; events = s.events; stopped = s.stopped }) same })
+    subst (λ o. LostAt s c o [] out (record { conns = conns; streams = s.streams; opened = s.opened; next = s.next; version = s.version; events = s.events; now = s.now; stopped = s.stopped })) (sym unknown)
+    (record { none = refl; given = given; left = ap (λ x. record { conns = x; streams = s.streams; opened = s.opened; next = s.next; version = s.version; events = s.events; now = s.now; stopped = s.stopped }) same })
 
 -- ---- a connection that is lost
 
 abbrev pub with_conns : Numbered Conn → State → State
-with_conns conns s = record { conns = conns; streams = s.streams; opened = s.opened; next = s.next; version = s.version; events = s.events; stopped = s.stopped }
+with_conns conns s = record { conns = conns; streams = s.streams; opened = s.opened; next = s.next; version = s.version; events = s.events; now = s.now; stopped = s.stopped }
 
 pub lost_leaves : (c : ℕ) (k : Conn) (numbers : List ℕ) (conns : Numbered Conn) (h old : Seen) (new : State) → h ≡ old → numbers ≡ k.streams → conns ≡ without c h.state.conns
     → new ≡ with_streams (let_go numbers h.state.streams) (with_conns conns h.state) → new ≡ without_conn c k old.state
@@ -204,7 +235,7 @@ lost_known s c k added out new known ends given left = subst (λ o. LostAt s c o
 -- ---- the end of all
 
 abbrev pub stopped_with : Numbered Conn → State → State
-stopped_with conns s = record { conns = conns; streams = s.streams; opened = s.opened; next = s.next; version = s.version; events = s.events; stopped = true }
+stopped_with conns s = record { conns = conns; streams = s.streams; opened = s.opened; next = s.next; version = s.version; events = s.events; now = s.now; stopped = true }
 
 pub stop_leaves : (conns : Numbered Conn) (s old : State) → conns ≡ [] → s ≡ with_streams [] old → stopped_with conns s ≡ at_its_end old
 stop_leaves conns s old none left = ap (λ cs. stopped_with cs s) none ∙ ap (stopped_with []) left

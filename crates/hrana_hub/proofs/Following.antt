@@ -1,6 +1,6 @@
 -- In every run the replies of each stream are those of its requests, in their order.
-use Rattle.std.proofs.Common.{◌≡◌, ◌≢◌, ◌≤◌, ◌<◌, ◌+◌, ℕ, ℤ, Bool, true, false, cond, nat_eq, List, [], ◌∷◌, All, Option, None, Some, option_to_list, refl, sym, ap, ◌∙◌, subst, arith, inl, inr, eq-eqb, ne_eqb}
-use Rattle.std.proofs.lemmas.Bool.{cases_eq, true≢false}
+use Rattle.std.proofs.Common.{◌≡◌, ◌≢◌, ◌≤◌, ◌<◌, ◌+◌, ◌-◌, ◌&&◌, ℕ, ℤ, Bool, true, false, not, cond, nat_eq, nat_le, List, [], ◌∷◌, All, Option, None, Some, option_to_list, refl, sym, ap, ◌∙◌, subst, arith, inl, inr, eq-eqb, ne_eqb}
+use Rattle.std.proofs.lemmas.Bool.{cases_eq, and_parts, true≢false}
 use Rattle.hrana_value.specs.declared.StreamNo.{StreamNo}
 use Rattle.stream_requests.specs.declared.asks.Ask.{Ask}
 use Rattle.http_wire.specs.declared.outs.Outs.{Outs}
@@ -8,23 +8,27 @@ use Rattle.engine_core.specs.declared.entries.Entry.{Entry}
 use Rattle.stream_task.specs.Doing.{work_of}
 use Rattle.stream_task.specs.Laws.{TaskMeans}
 use Rattle.stream_task.specs.Polls.{is_waiting}
+use Rattle.stream_task.specs.declared.work.Work.{Work}
 use Rattle.hrana_hub.specs.declared.events.Event.{Event}
 use Rattle.hrana_hub.specs.declared.events.Event.TheVariants as event
 use Rattle.hrana_hub.specs.Maps.{at, put}
 use Rattle.hrana_hub.specs.State.{Conn, Stream, State}
 use Rattle.hrana_hub.specs.Arrivals.{fresh, joined, waiting, waited, with_conn, with_stream, with_request, is_close, shut}
 use Rattle.hrana_hub.specs.Ended.{without_conn, at_its_end}
+use Rattle.hrana_hub.specs.Moments.{is_begun, is_due, expired, after, at_moment}
+use Rattle.hrana_hub.specs.declared.limits.TheConstants.{EXPIRY_MS}
 use Rattle.hrana_hub.specs.Polled.{Polled, PollFell, reply_in, is_over, polled, streams_left, replied, dropped}
 use Rattle.hrana_hub.specs.Run.{Run, start, more}
 use Rattle.hrana_hub.specs.Step.{counted, new_conn, with_new_conn}
-use Rattle.hrana_hub.specs.Stories.{Story, no_story, story, told_on, text_in, BeganAt, AreVersions, Tells, IsHeard, InOrder, RepliesInOrder}
-use Rattle.hrana_hub.proofs.Changes.{Change, rests, comes, marks, joins, asks_for, polls, falls, loses, ends, IsOpen, IsSilent, step_changes}
+use Rattle.hrana_hub.specs.Stories.{Story, no_story, story, told_on, turned, text_in, BeganAt, AreVersions, Tells, IsHeard, InOrder, RepliesInOrder}
+use Rattle.hrana_hub.proofs.Changes.{Change, rests, comes, marks, joins, asks_for, polls, falls, loses, expires, ends, IsOpen, IsSilent, step_changes}
 use Rattle.hrana_hub.proofs.EntryLemmas.{at_put, at_put_other, at_without, at_without_other}
+use Rattle.hrana_hub.proofs.Expiring.{at_each, at_each_none, after_due, after_other}
 use Rattle.hrana_hub.proofs.Kept.{Kept, counted_kept, run_kept}
 use Rattle.hrana_hub.proofs.Listed.{put_cases, placed_cases, without_cases, let_go_cases}
 use Rattle.hrana_hub.proofs.MapLemmas.{none_some, some_one, at_placed, at_placed_other}
-use Rattle.hrana_hub.proofs.Paired.{EachPairs, run_paired}
-use Rattle.hrana_hub.proofs.Telling.{extended, told_is, told_same, drop_behind, ids_none, asks_none, used_none, tells_front, none_front, more_front, asked_front, fresh_tells, asked_tells, polled_tells}
+use Rattle.hrana_hub.proofs.Paired.{EachPairs, run_paired, due_idle}
+use Rattle.hrana_hub.proofs.Telling.{extended, told_is, told_same, drop_behind, ids_none, asks_none, used_none, expires_none, expired_front, expired_tells, nothing_more, tells_front, none_front, more_front, asked_front, fresh_tells, asked_tells, polled_tells}
 
 -- what is kept of the story of a number: it is empty until a stream has the number
 record Follows (shared : Bool) (had : ℕ → ℕ) (n : ℕ) (t : Story) (s : State) : Type 0 where
@@ -55,6 +59,10 @@ shut_put s new c k k' o closed is x i = elim (put_cases c x.conn k k' i.k s.conn
   | inr other ↦ other.0
 ]
 
+no_asks : (asks : List Work) → is_waiting asks ≡ false → asks ≡ []
+no_asks [] e = refl
+no_asks (w ∷ asks) e = absurd (true≢false e)
+
 -- ---- one change
 
 module _ (law : TaskMeans) (shared : Bool) (had : ℕ → ℕ) (n : ℕ) (t : Story) (s : State) (kept : Kept s) (pairs : EachPairs s.streams) (h : Follows shared had n t s) where
@@ -64,10 +72,10 @@ module _ (law : TaskMeans) (shared : Bool) (had : ℕ → ℕ) (n : ℕ) (t : St
   -- nothing of the stream changed
   quiet_follows : (event : Event) (added : List Entry) (out : Outs) (new : State) → added ≡ [] → IsSilent event out → at n new.streams ≡ at n s.streams → s.opened ≤ new.opened → ((x : Stream) → at n s.streams ≡ Some x → IsHeard new x → IsHeard s x) → Goes event added out new
   quiet_follows event added out new none silent same rises heard =
-      stays shared had n t _ s new (told_same n t event s added out new (ids_none n event s new same) (asks_none n event s new same) (used_none n event added none) (silent n)) rises (λ x e. sym same ∙ e) heard h
+      stays shared had n t _ s new (told_same n t event s added out new (expires_none n event s new same) (ids_none n event s new same) (asks_none n event s new same) (used_none n event added none) (silent n)) rises (λ x e. sym same ∙ e) heard h
 
   comes_follows : (c : ℕ) (closing : Bool) (added : List Entry) (out : Outs) → at c s.conns ≡ None → Goes (event.Opened c) added out (with_new_conn c closing s)
-  comes_follows c closing added out none = stays shared had n t _ s (with_new_conn c closing s) (told_same n t (event.Opened c) s added out (with_new_conn c closing s) refl refl refl refl) (omega arith) (λ x e. e)
+  comes_follows c closing added out none = stays shared had n t _ s (with_new_conn c closing s) (told_same n t (event.Opened c) s added out (with_new_conn c closing s) refl refl refl refl refl) (omega arith) (λ x e. e)
       (λ x e i. (let its = kept.stream n x e in elim (placed_cases c x.conn (new_conn closing) i.k s.conns i.known) [
         | inl own ↦ absurd (none_some (sym none ∙ ap (λ d. at d s.conns) (sym own.0) ∙ its.known))
         | inr other ↦ record { k = i.k; known = other.1; unshut = i.unshut }
@@ -77,16 +85,16 @@ module _ (law : TaskMeans) (shared : Bool) (had : ℕ → ℕ) (n : ℕ) (t : St
   joins_follows c text k id added out none o = elim (cases_eq n (s.opened + 1)) [
     | inl own ↦
         (let new = with_stream c k id s in
-        let y = fresh c (s.opened + 1) in
+        let y = fresh s.now c (s.opened + 1) in
         let before : at n s.streams ≡ None = kept.above n (omega (arith, own)) in
         let now : at n new.streams ≡ Some y = ap (λ m. at m new.streams) own ∙ at_placed (s.opened + 1) y s.streams in
         let first : t ≡ no_story = h.fresh (omega (arith, own)) in
-        let same : told_on n t (event.Text c text) s added out new ≡ no_story = told_same n t (event.Text c text) s added out new (rw (before, now) refl) (rw (before, now) refl) refl refl ∙ first in
+        let same : told_on n t (event.Text c text) s added out new ≡ no_story = told_same n t (event.Text c text) s added out new refl (rw (before, now) refl) (rw (before, now) refl) refl refl ∙ first in
         subst (λ u. Follows shared had n u new) (sym same) (record {
           fresh = λ l. refl;
-          order = record { whole = λ x e i. subst (λ z. Tells shared had no_story z) (some_one (sym now ∙ e)) (fresh_tells shared had c (s.opened + 1)); front = none_front shared had };
+          order = record { whole = λ x e i. subst (λ z. Tells shared had no_story z) (some_one (sym now ∙ e)) (fresh_tells shared had s.now c (s.opened + 1)); front = none_front shared had };
         }))
-    | inr other ↦ quiet_follows (event.Text c text) added out (with_stream c k id s) none (λ m. refl) (at_placed_other (s.opened + 1) n (fresh c (s.opened + 1)) s.streams other) (omega arith)
+    | inr other ↦ quiet_follows (event.Text c text) added out (with_stream c k id s) none (λ m. refl) (at_placed_other (s.opened + 1) n (fresh s.now c (s.opened + 1)) s.streams other) (omega arith)
         (λ x e i. heard_put s (with_stream c k id s) c k (joined id (s.opened + 1) k) o refl x i)
   ]
 
@@ -97,7 +105,7 @@ module _ (law : TaskMeans) (shared : Bool) (had : ℕ → ℕ) (n : ℕ) (t : St
         let y = waiting id what x in
         let before : at n s.streams ≡ Some x = ap (λ j. at j s.streams) own ∙ known in
         let now : at n new.streams ≡ Some y = ap (λ j. at j new.streams) own ∙ at_put m x y s.streams known in
-        let told : told_on n t (event.Text c text) s added out new ≡ extended t (id ∷ []) (option_to_list (work_of what)) [] [] = told_is n t (event.Text c text) s added out new (id ∷ []) (option_to_list (work_of what)) [] [] (rw (before, now) (drop_behind x.waits (id ∷ []))) (rw (before, now) (drop_behind x.task.asks (option_to_list (work_of what)))) refl refl in
+        let told : told_on n t (event.Text c text) s added out new ≡ extended t (id ∷ []) (option_to_list (work_of what)) [] [] = told_is n t (event.Text c text) s added out new (id ∷ []) (option_to_list (work_of what)) [] [] refl (rw (before, now) (drop_behind x.waits (id ∷ []))) (rw (before, now) (drop_behind x.task.asks (option_to_list (work_of what)))) refl refl in
         let was : IsHeard new x → Tells shared had t x = λ i. h.order.whole x before (heard_put s new c k (waited stream (is_close what) k) o refl x i) in
         subst (λ u. Follows shared had n u new) (sym told) (record {
           fresh = λ l. absurd (none_some (sym (kept.above n l) ∙ before));
@@ -112,12 +120,12 @@ module _ (law : TaskMeans) (shared : Bool) (had : ℕ → ℕ) (n : ℕ) (t : St
   other_poll : (stream : StreamNo) (added : List Entry) (out : Outs) (new : State) → n ≢ stream.0 → at n new.streams ≡ at n s.streams → s.opened ≤ new.opened → ((x : Stream) → at n s.streams ≡ Some x → IsHeard new x → IsHeard s x) → Goes (event.Poll stream) added out new
   other_poll stream added out new other same rises heard =
       let off : nat_eq stream.0 n ≡ false = ne_eqb stream.0 n (λ e. other (sym e)) in
-      stays shared had n t _ s new (told_same n t (event.Poll stream) s added out new refl refl (ap (λ b. cond b added []) off) (ap (λ b. cond b (text_in out.out) []) off)) rises (λ x e. sym same ∙ e) heard h
+      stays shared had n t _ s new (told_same n t (event.Poll stream) s added out new refl refl refl (ap (λ b. cond b added []) off) (ap (λ b. cond b (text_in out.out) []) off)) rises (λ x e. sym same ∙ e) heard h
 
   own_poll : (stream : StreamNo) (added : List Entry) (out : Outs) (new : State) → n ≡ stream.0 → told_on n t (event.Poll stream) s added out new ≡ extended t [] [] added (text_in out.out)
   own_poll stream added out new own =
       let on : nat_eq stream.0 n ≡ true = eq-eqb stream.0 n (sym own) in
-      told_is n t (event.Poll stream) s added out new [] [] added (text_in out.out) refl refl (ap (λ b. cond b added []) on) (ap (λ b. cond b (text_in out.out) []) on)
+      told_is n t (event.Poll stream) s added out new [] [] added (text_in out.out) refl refl refl (ap (λ b. cond b added []) on) (ap (λ b. cond b (text_in out.out) []) on)
 
   left_at : (over : Bool) (m : ℕ) (x y : Stream) → at m s.streams ≡ Some x → n ≢ m → at n (streams_left over m y s.streams) ≡ at n s.streams
   left_at true m x y known other = at_without_other m n s.streams kept.streams_rise other
@@ -131,7 +139,7 @@ module _ (law : TaskMeans) (shared : Bool) (had : ℕ → ℕ) (n : ℕ) (t : St
   polls_follow stream x k added out new known waits o began p =
       let reply = reply_in p.result in
       let over = is_over reply p.task in
-      let y = polled reply p.task x in
+      let y = polled s.now reply p.task x in
       let conns : new.conns ≡ put x.conn (replied stream.0 over reply k) s.conns = ap (λ (u : State). u.conns) p.left in
       let streams : new.streams ≡ streams_left over stream.0 y s.streams = ap (λ (u : State). u.streams) p.left in
       let opened : new.opened ≡ s.opened = ap (λ (u : State). u.opened) p.left in
@@ -174,12 +182,45 @@ module _ (law : TaskMeans) (shared : Bool) (had : ℕ → ℕ) (n : ℕ) (t : St
   -- ---- ends
 
   loses_follow : (c : ℕ) (k : Conn) (added : List Entry) (out : Outs) → Goes (event.Lost c) added out (without_conn c k s)
-  loses_follow c k added out = stays shared had n t _ s (without_conn c k s) (told_same n t (event.Lost c) s added out (without_conn c k s) refl refl refl refl) (omega arith)
+  loses_follow c k added out = stays shared had n t _ s (without_conn c k s) (told_same n t (event.Lost c) s added out (without_conn c k s) refl refl refl refl refl) (omega arith)
       (λ x e. (let_go_cases k.streams n x s.streams kept.streams_rise e).1)
       (λ x e i. record { k = i.k; known = (without_cases c x.conn i.k s.conns kept.conns_rise i.known).1; unshut = i.unshut }) h
 
+  -- the stream doesn't expire
+  stays_at : (moment : ℕ) (added : List Entry) (out : Outs) → at n (at_moment moment s).streams ≡ at n s.streams → Goes (event.Moment moment) added out (at_moment moment s)
+  stays_at moment added out same =
+      stays shared had n t _ s (at_moment moment s) (told_same n t (event.Moment moment) s added out (at_moment moment s) (expires_none n (event.Moment moment) s (at_moment moment s) same) refl refl refl refl) (omega arith)
+      (λ x e. sym same ∙ e) (λ x e i. record { k = i.k; known = i.known; unshut = i.unshut }) h
+
+  expires_here : (moment : ℕ) (x : Stream) (added : List Entry) (out : Outs) → at n s.streams ≡ Some x → is_due moment x ≡ true → Goes (event.Moment moment) added out (at_moment moment s)
+  expires_here moment x added out known due =
+      let new = at_moment moment s in
+      let now : at n new.streams ≡ Some (expired x) = at_each (after moment) n x s.streams known ∙ ap Some (after_due moment x due) in
+      let left = (expired x).task.session in
+      let begun : is_begun x.task.session.state ≡ true = (and_parts (is_begun x.task.session.state) (not (is_waiting x.task.asks)) (and_parts (is_begun x.task.session.state && not (is_waiting x.task.asks)) (nat_le EXPIRY_MS (moment - x.last_answer)) due).0).0 in
+      let told : told_on n t (event.Moment moment) s added out new ≡ turned true left t = rw (known, now, begun) (ap (turned true left) (nothing_more t)) in
+      subst (λ u. Follows shared had n u new) (sym told) (record {
+        fresh = λ l. absurd (none_some (sym (kept.above n l) ∙ known));
+        order = record {
+          whole = λ z e i. subst (λ z. IsHeard new z → Tells shared had (turned true left t) z) (some_one (sym now ∙ e))
+              (λ j. expired_tells shared had t x (no_asks x.task.asks (due_idle moment x due)) (h.order.whole x known (record { k = j.k; known = j.known; unshut = j.unshut }))) i;
+          front = expired_front shared had t left h.order.front;
+        };
+      })
+
+  expires_follow : (moment : ℕ) (added : List Entry) (out : Outs) → Goes (event.Moment moment) added out (at_moment moment s)
+  expires_follow moment added out = by (at n s.streams) refl
+    where
+      at_due : (x : Stream) → at n s.streams ≡ Some x → (b : Bool) → is_due moment x ≡ b → Goes (event.Moment moment) added out (at_moment moment s)
+      at_due x e true due = expires_here moment x added out e due
+      at_due x e false due = stays_at moment added out (at_each (after moment) n x s.streams e ∙ ap Some (after_other moment x due) ∙ sym e)
+
+      by : (o : Option Stream) → at n s.streams ≡ o → Goes (event.Moment moment) added out (at_moment moment s)
+      by None e = stays_at moment added out (at_each_none (after moment) n s.streams e ∙ sym e)
+      by (Some x) e = at_due x e (is_due moment x) refl
+
   ends_follow : (added : List Entry) (out : Outs) → Goes event.Stop added out (at_its_end s)
-  ends_follow added out = stays shared had n t _ s (at_its_end s) (told_same n t event.Stop s added out (at_its_end s) refl refl refl refl) (omega arith) (λ x e. absurd (none_some e)) (λ x e i. absurd (none_some i.known)) h
+  ends_follow added out = stays shared had n t _ s (at_its_end s) (told_same n t event.Stop s added out (at_its_end s) refl refl refl refl refl) (omega arith) (λ x e. absurd (none_some e)) (λ x e i. absurd (none_some i.known)) h
 
   change_follows : {e : Event} (added : List Entry) (out : Outs) (new : State) → All (BeganAt had s.version) added → Change shared s added out new e → Goes e added out new
   change_follows added out new began (rests e none silent left) = subst (λ u. Goes e added out u) (sym left) (quiet_follows e added out s none silent refl (omega arith) (λ x f i. i))
@@ -190,6 +231,7 @@ module _ (law : TaskMeans) (shared : Bool) (had : ℕ → ℕ) (n : ℕ) (t : St
   change_follows added out new began (polls stream x k known waits o p) = polls_follow stream x k added out new known waits o began p
   change_follows added out new began (falls stream x k known o p) = falls_follow stream x k added out new known o p
   change_follows added out new began (loses c k known ended left) = subst (λ u. Goes (event.Lost c) added out u) (sym left) (loses_follow c k added out)
+  change_follows added out new began (expires moment ended left) = subst (λ u. Goes (event.Moment moment) added out u) (sym left) (expires_follow moment added out)
   change_follows added out new began (ends ended left) = subst (λ u. Goes event.Stop added out u) (sym left) (ends_follow added out)
 
 -- ---- every run
@@ -200,6 +242,7 @@ told_counted n t (event.Text c text) s added out new = refl
 told_counted n t (event.Opened c) s added out new = refl
 told_counted n t (event.Binary c) s added out new = refl
 told_counted n t (event.Lost c) s added out new = refl
+told_counted n t (event.Moment moment) s added out new = refl
 told_counted n t (event.Poll stream) s added out new = refl
 told_counted n t event.Stop s added out new = refl
 

@@ -14,11 +14,13 @@ use Rattle.hrana_hub.specs.State.{Conn, Stream, State, first_state}
 use Rattle.hrana_hub.specs.Arrivals.{fresh, joined, waiting, waited, with_conn, with_stream, with_request, is_close, shut}
 use Rattle.hrana_hub.specs.Polled.{Polled, PollFell, reply_in, is_over, polled, streams_left, without_stream, replied, dropped, with_entry, with_streams}
 use Rattle.hrana_hub.specs.Ended.{without_conn, at_its_end}
+use Rattle.hrana_hub.specs.Moments.{is_due, expired, after, at_moment}
 use Rattle.hrana_hub.specs.Step.{counted, new_conn, with_new_conn}
 use Rattle.hrana_hub.specs.Laws.{IsWithin, InEveryRun, LimitsHold}
 use Rattle.hrana_hub.specs.Run.{Run, RunFrom, start, more}
-use Rattle.hrana_hub.proofs.Changes.{Change, rests, comes, marks, joins, asks_for, polls, falls, loses, ends, IsMarked, filter_few, step_changes}
+use Rattle.hrana_hub.proofs.Changes.{Change, rests, comes, marks, joins, asks_for, polls, falls, loses, expires, ends, IsMarked, filter_few, step_changes}
 use Rattle.hrana_hub.proofs.EntryLemmas.{at_put, at_put_other, at_without_other, length_put, rising_without}
+use Rattle.hrana_hub.proofs.Expiring.{at_each, at_each_none, rises_each, each_cases}
 use Rattle.hrana_hub.proofs.Listed.{contains_none, contains_without, without_contains, put_cases, placed_cases, without_cases, apart_none, length_placed, length_without, rises_let_go, let_go_cases, let_go_other, let_go_none}
 use Rattle.hrana_hub.proofs.MapLemmas.{none_some, some_one, at_placed, at_placed_other, Rises, rises_nil, rises_put, rises_placed}
 
@@ -131,7 +133,7 @@ marks_kept s c k k' h there m = record {
 joins_kept : (s : State) (c : ℕ) (k : Conn) (id : ℤ) → Kept s → at c s.conns ≡ Some k → length k.streams < MAX_STREAMS → Kept (with_stream c k id s)
 joins_kept s c k id h there l =
     let n = s.opened + 1 in
-    let y = fresh c n in
+    let y = fresh s.now c n in
     let k' = joined id n k in
     let none : at n s.streams ≡ None = h.above n (omega arith) in
     let old = h.conn c k there in
@@ -232,9 +234,9 @@ replied_within n over reply k h = record { streams = by over; requests = omega (
 polls_kept : (shared : Bool) (s : State) (n : ℕ) (x : Stream) (k : Conn) (added : List Entry) (out : Outs) (new : State) → Kept s → at n s.streams ≡ Some x → at x.conn s.conns ≡ Some k → Polled shared s n x.conn x k added out new → Kept new
 polls_kept shared s n x k added out new h known there p = by (is_over (reply_in p.result) p.task) p.left
   where
-    by : (over : Bool) → new ≡ with_entry p.entry (with_conn x.conn (replied n over (reply_in p.result) k) (with_streams (streams_left over n (polled (reply_in p.result) p.task x) s.streams) s)) → Kept new
+    by : (over : Bool) → new ≡ with_entry p.entry (with_conn x.conn (replied n over (reply_in p.result) k) (with_streams (streams_left over n (polled s.now (reply_in p.result) p.task x) s.streams) s)) → Kept new
     by true left = leaves_kept s n x k h known there (replied n true (reply_in p.result) k) (replied_within n true (reply_in p.result) k (h.conn x.conn k there).within) refl new (ap (λ (t : State). t.conns) left) (ap (λ (t : State). t.streams) left) (ap (λ (t : State). t.opened) left)
-    by false left = tells_kept s n x k h known there (replied n false (reply_in p.result) k) (polled (reply_in p.result) p.task x) (replied_within n false (reply_in p.result) k (h.conn x.conn k there).within) refl refl new (ap (λ (t : State). t.conns) left) (ap (λ (t : State). t.streams) left) (ap (λ (t : State). t.opened) left)
+    by false left = tells_kept s n x k h known there (replied n false (reply_in p.result) k) (polled s.now (reply_in p.result) p.task x) (replied_within n false (reply_in p.result) k (h.conn x.conn k there).within) refl refl new (ap (λ (t : State). t.conns) left) (ap (λ (t : State). t.streams) left) (ap (λ (t : State). t.opened) left)
 
 falls_kept : (shared : Bool) (s : State) (n : ℕ) (x : Stream) (k : Conn) (added : List Entry) (out : Outs) (new : State) → Kept s → at n s.streams ≡ Some x → at x.conn s.conns ≡ Some k → PollFell shared s n x.conn x k added out new → Kept new
 falls_kept shared s n x k added out new h known there p =
@@ -260,6 +262,31 @@ loses_kept s c k h there = record {
   });
 }
 
+-- what expires is still a stream of its connection
+after_conn : (moment : ℕ) (x : Stream) → (after moment x).conn ≡ x.conn
+after_conn moment x = by (is_due moment x)
+  where
+    by : (b : Bool) → (cond b (expired x) x).conn ≡ x.conn
+    by true = refl
+    by false = refl
+
+expires_kept : (s : State) (moment : ℕ) → Kept s → Kept (at_moment moment s)
+expires_kept s moment h = record {
+  conns_rise = h.conns_rise;
+  streams_rise = rises_each (after moment) s.streams h.streams_rise;
+  above = λ n l. at_each_none (after moment) n s.streams (h.above n l);
+  few = h.few;
+  conn = λ c k e. (let old = h.conn c k e in record {
+    within = old.within;
+    owned = λ n i. (let o = old.owned n i in (after moment o.0, at_each (after moment) n o.0 s.streams o.1, after_conn moment o.0 ∙ o.2));
+  });
+  stream = λ n z e. (let was = each_cases (after moment) n z s.streams e in let old = h.stream n was.0 was.1 in record {
+    k = old.k;
+    known = ap (λ (y : Stream). at y.conn s.conns) was.2 ∙ ap (λ d. at d s.conns) (after_conn moment was.0) ∙ old.known;
+    lists = old.lists;
+  });
+}
+
 ends_kept : (s : State) → Kept (at_its_end s)
 ends_kept s = record {
   conns_rise = rises_nil Conn;
@@ -281,6 +308,7 @@ change_kept shared s added out new h (asks_for c text k stream n x id what w non
 change_kept shared s added out new h (polls stream x k known waits heard p) = polls_kept shared s stream.0 x k added out new h known heard.known p
 change_kept shared s added out new h (falls stream x k known heard p) = falls_kept shared s stream.0 x k added out new h known heard.known p
 change_kept shared s added out new h (loses c k known ended left) = subst Kept (sym left) (loses_kept s c k h known)
+change_kept shared s added out new h (expires moment ended left) = subst Kept (sym left) (expires_kept s moment h)
 change_kept shared s added out new h (ends ended left) = subst Kept (sym left) (ends_kept s)
 
 pub from_kept : {token : Option (List ℕ)} {shared : Bool} {first : State} {events : List Event} {entries : List (List Entry)} {outs : List Outs} {s : State} → Kept first → RunFrom token shared first events entries outs s → Kept s

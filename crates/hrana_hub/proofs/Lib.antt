@@ -6,6 +6,7 @@ pub mod Agreeing
 pub mod Adding
 pub mod Beginning
 pub mod Ending
+pub mod Expiring
 pub mod Polling
 pub mod Stepping
 pub mod ArrivalLemmas

@@ -46,10 +46,10 @@ at_first n e es h = rw (hit n e.0 h) refl
 pub at_later : {A : Type 0} (n : ℕ) (e : ℕ × A) (es : Numbered A) → n ≢ e.0 → at n (e ∷ es) ≡ at n es
 at_later n e es h = rw (miss n e.0 h) refl
 
-put_first : {A : Type 0} (n : ℕ) (x : A) (e : ℕ × A) (es : Numbered A) → n ≡ e.0 → put n x (e ∷ es) ≡ (e.0, x) ∷ es
+pub put_first : {A : Type 0} (n : ℕ) (x : A) (e : ℕ × A) (es : Numbered A) → n ≡ e.0 → put n x (e ∷ es) ≡ (e.0, x) ∷ es
 put_first n x e es h = rw (hit n e.0 h) refl
 
-put_later : {A : Type 0} (n : ℕ) (x : A) (e : ℕ × A) (es : Numbered A) → n ≢ e.0 → put n x (e ∷ es) ≡ e ∷ put n x es
+pub put_later : {A : Type 0} (n : ℕ) (x : A) (e : ℕ × A) (es : Numbered A) → n ≢ e.0 → put n x (e ∷ es) ≡ e ∷ put n x es
 put_later n x e es h = rw (miss n e.0 h) refl
 
 without_first : {A : Type 0} (n : ℕ) (e : ℕ × A) (es : Numbered A) → n ≡ e.0 → without n (e ∷ es) ≡ es
@@ -95,7 +95,7 @@ at_placed_other n k x (e ∷ es) ne = elim (cases_order n e.0) [
 -- ---- numbers that rise
 
 -- each of these is above the number
-abbrev AllAbove : {A : Type 0} → ℕ → Numbered A → Type 0
+abbrev pub AllAbove : {A : Type 0} → ℕ → Numbered A → Type 0
 AllAbove n [] = Unit {0}
 AllAbove n (e ∷ es) = (n < e.0) × AllAbove n es
 
@@ -113,10 +113,10 @@ above_all n (e ∷ es) h = (less n e.0 h.0, above_all n es h.1)
 abbrev pub Rises : {A : Type 0} → Numbered A → Type 0
 Rises es = IsStrictlySortedBy nat_cmp (keys_of es)
 
-rises_head : {A : Type 0} (e : ℕ × A) (es : Numbered A) → Rises (e ∷ es) → AllAbove e.0 es
+pub rises_head : {A : Type 0} (e : ℕ × A) (es : Numbered A) → Rises (e ∷ es) → AllAbove e.0 es
 rises_head e es h = all_above e.0 es (sorted_head nat_cmp e.0 (keys_of es) h)
 
-rises_tail : {A : Type 0} (e : ℕ × A) (es : Numbered A) → Rises (e ∷ es) → Rises es
+pub rises_tail : {A : Type 0} (e : ℕ × A) (es : Numbered A) → Rises (e ∷ es) → Rises es
 rises_tail e es h = sorted_tail nat_cmp e.0 (keys_of es) h
 
 pub rises_nil : (A : Type 0) → Rises {A = A} []

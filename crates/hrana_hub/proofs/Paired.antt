@@ -1,6 +1,6 @@
 -- Each request that waits has the one id that its reply is given to.
-use Rattle.std.proofs.Common.{◌≡◌, ◌≢◌, ◌+◌, ℕ, ℤ, Bool, true, false, List, [], ◌∷◌, length, Option, Some, refl, sym, ap, ◌∙◌, subst, arith, inl, inr}
-use Rattle.std.proofs.lemmas.Bool.{true≢false}
+use Rattle.std.proofs.Common.{◌≡◌, ◌≢◌, ◌+◌, ◌-◌, ◌&&◌, ℕ, ℤ, Bool, true, false, not, cond, nat_le, List, [], ◌∷◌, length, Option, Some, refl, sym, ap, ◌∙◌, subst, arith, inl, inr}
+use Rattle.std.proofs.lemmas.Bool.{true≢false, and_parts}
 use Rattle.std.proofs.lemmas.List.{length_push}
 use Rattle.stream_requests.specs.declared.asks.Ask.{Ask}
 use Rattle.http_wire.specs.declared.outs.Outs.{Outs}
@@ -18,10 +18,13 @@ use Rattle.hrana_hub.specs.Maps.{Numbered, at}
 use Rattle.hrana_hub.specs.State.{Stream, State}
 use Rattle.hrana_hub.specs.Arrivals.{fresh, waiting}
 use Rattle.hrana_hub.specs.Polled.{reply_in, is_over, still_wait, later_ids, first_id, polled, streams_left, dropped}
+use Rattle.hrana_hub.specs.Moments.{is_begun, is_due, expired, after}
+use Rattle.hrana_hub.specs.declared.limits.TheConstants.{EXPIRY_MS}
 use Rattle.hrana_hub.specs.Run.{Run, start, more}
 use Rattle.hrana_hub.specs.Step.{counted}
 use Rattle.hrana_hub.proofs.Answered.{first_paired}
-use Rattle.hrana_hub.proofs.Changes.{Change, rests, comes, marks, joins, asks_for, polls, falls, loses, ends, step_changes}
+use Rattle.hrana_hub.proofs.Changes.{Change, rests, comes, marks, joins, asks_for, polls, falls, loses, expires, ends, step_changes}
+use Rattle.hrana_hub.proofs.Expiring.{each_cases}
 use Rattle.hrana_hub.proofs.Kept.{Kept, counted_kept, run_kept}
 use Rattle.hrana_hub.proofs.Listed.{put_cases, placed_cases, without_cases, let_go_cases}
 use Rattle.hrana_hub.proofs.MapLemmas.{none_some, Rises}
@@ -64,12 +67,33 @@ still_paired shared seen old added result new ids waits p found e =
 paired_more : (x : Stream) (id : ℤ) (what : Ask) (w : Work) → work_of what ≡ Some w → Pairs x → Pairs (waiting id what x)
 paired_more x id what w e h = rw e (omega (arith, length_push x.waits id, length_push x.task.asks w, h))
 
+-- a stream that expires has no request
+idle_length : (asks : List Work) → is_waiting asks ≡ false → length asks ≡ 0
+idle_length [] e = refl
+idle_length (w ∷ asks) e = absurd (true≢false e)
+
+pub due_idle : (moment : ℕ) (x : Stream) → is_due moment x ≡ true → is_waiting x.task.asks ≡ false
+due_idle moment x due =
+    let parts = and_parts (is_begun x.task.session.state && not (is_waiting x.task.asks)) (nat_le EXPIRY_MS (moment - x.last_answer)) due in
+    by (is_waiting x.task.asks) (and_parts (is_begun x.task.session.state) (not (is_waiting x.task.asks)) parts.0).1
+  where
+    by : (b : Bool) → not b ≡ true → b ≡ false
+    by true e = absurd (true≢false (sym e))
+    by false e = refl
+
+after_paired : (moment : ℕ) (x : Stream) → Pairs x → Pairs (after moment x)
+after_paired moment x h = by (is_due moment x) refl
+  where
+    by : (b : Bool) → is_due moment x ≡ b → Pairs (cond b (expired x) x)
+    by true due = h ∙ idle_length x.task.asks (due_idle moment x due)
+    by false due = h
+
 -- ---- every step
 
 polls_paired : (shared : Bool) (s : State) (n : ℕ) (x : Stream) (task : Task) (entry : Option Entry) (result : Poll Stepped) (over : Bool) (seen : Sees) → Rises s.streams → EachPairs s.streams → at n s.streams ≡ Some x → is_waiting x.task.asks ≡ true
-    → Polls shared seen x.task entry result task → result ≢ Ready stepped.Broke → EachPairs (streams_left over n (polled (reply_in result) task x) s.streams)
+    → Polls shared seen x.task entry result task → result ≢ Ready stepped.Broke → EachPairs (streams_left over n (polled s.now (reply_in result) task x) s.streams)
 polls_paired shared s n x task entry result true seen r h known waits p found m z e = h m z (without_cases n m z s.streams r e).1
-polls_paired shared s n x task entry result false seen r h known waits p found m z e = elim (put_cases n m x (polled (reply_in result) task x) z s.streams known e) [
+polls_paired shared s n x task entry result false seen r h known waits p found m z e = elim (put_cases n m x (polled s.now (reply_in result) task x) z s.streams known e) [
   | inl own ↦ subst Pairs (sym own.1) (still_paired shared seen x.task entry result task x.waits waits p found (h n x known))
   | inr other ↦ h m z other.1
 ]
@@ -78,7 +102,7 @@ pub change_paired : {event : Event} (shared : Bool) (s : State) (added : List En
 change_paired shared s added out new k h (rests event none silent left) = subst (λ (t : State). EachPairs t.streams) (sym left) h
 change_paired shared s added out new k h (comes c closing none unknown few left) = subst (λ (t : State). EachPairs t.streams) (sym left) h
 change_paired shared s added out new k h (marks event c l l' none silent heard marked left) = subst (λ (t : State). EachPairs t.streams) (sym left) h
-change_paired shared s added out new k h (joins c text l id none heard unnamed few left) = subst (λ (t : State). EachPairs t.streams) (sym left) (λ n x e. elim (placed_cases (s.opened + 1) n (fresh c (s.opened + 1)) x s.streams e) [
+change_paired shared s added out new k h (joins c text l id none heard unnamed few left) = subst (λ (t : State). EachPairs t.streams) (sym left) (λ n x e. elim (placed_cases (s.opened + 1) n (fresh s.now c (s.opened + 1)) x s.streams e) [
   | inl own ↦ subst Pairs (sym own.1) refl
   | inr other ↦ h n x other.1
 ])
@@ -92,6 +116,9 @@ change_paired shared s added out new k h (falls stream x l known heard p) = subs
   | inr other ↦ h m z other.1
 ])
 change_paired shared s added out new k h (loses c l known ended left) = subst (λ (t : State). EachPairs t.streams) (sym left) (λ n x e. h n x (let_go_cases l.streams n x s.streams k.streams_rise e).1)
+change_paired shared s added out new k h (expires moment ended left) = subst (λ (t : State). EachPairs t.streams) (sym left) (λ n z e.
+    let was = each_cases (after moment) n z s.streams e in
+    subst Pairs (sym was.2) (after_paired moment was.0 (h n was.0 was.1)))
 change_paired shared s added out new k h (ends ended left) = subst (λ (t : State). EachPairs t.streams) (sym left) (λ n x e. absurd (none_some e))
 
 pub run_paired : {token : Option (List ℕ)} {shared : Bool} {events : List Event} {entries : List (List Entry)} {outs : List Outs} {s : State} → Run token shared events entries outs s → EachPairs s.streams

@@ -59,6 +59,7 @@ pub record PollDid {X D : Type 0} (told shared : Bool) (m : Meaning D BoundStmt 
   pub next : new.state.next ≡ new.noted.next
   pub version : new.state.version ≡ new.turns.version
   pub events : new.state.events ≡ old.state.events
+  pub now : new.state.now ≡ old.state.now
   pub stopped : new.state.stopped ≡ old.state.stopped
 
 -- one entry takes at most one number
@@ -130,7 +131,7 @@ module _ {X D : Type 0} (told shared : Bool) (m : Meaning D BoundStmt Answer) (d
         polls = subst (λ v. Polls shared (record { by = old.turns.turn; version = v; next = old.state.next }) x.task e result task) (sym p.agrees.version)
             (subst (λ k. Polls shared (record { by = old.turns.turn; version = old.turns.version; next = k }) x.task e result task) (sym p.agrees.next) p.did.adds.holds);
         one = refl;
-        left = state_is new.state (with_entry e (with_streams (put n (with_task task x) old.state.streams) old.state)) p.conns p.streams p.opened next_left version_left p.events p.stopped;
+        left = state_is new.state (with_entry e (with_streams (put n (with_task task x) old.state.streams) old.state)) p.conns p.streams p.opened next_left version_left p.events p.now p.stopped;
       }
 
   poll_leads : PollsLead told shared m db live faults → IsTrue told → LeadsOn shared m (db engine) (live engine) (db engine') (live engine') old new (option_to_list p.did.adds.added)
@@ -163,7 +164,7 @@ none_replied n k =
 
 -- where no reply is given nothing changes
 pub untold : (n c : ℕ) (x : Stream) (k : Conn) (s : State) → at c s.conns ≡ Some k → at n s.streams ≡ Some x → s ≡ after_told n c k x None s
-untold n c x k s e f = state_is s (after_told n c k x None s) (sym (ap (λ l. put c l s.conns) (none_replied n k) ∙ put_same c k s.conns e)) (sym (put_same n x s.streams f)) refl refl refl refl refl
+untold n c x k s e f = state_is s (after_told n c k x None s) (sym (ap (λ l. put c l s.conns) (none_replied n k) ∙ put_same c k s.conns e)) (sym (put_same n x s.streams f)) refl refl refl refl refl refl
 
 told_polled : (shared : Bool) (s mid new : State) (n c : ℕ) (x : Stream) (k : Conn) (added : List Entry) (result : Poll Stepped) (out : Outs) → (p : PollsStream shared s n x added result mid) → Tells mid n c (with_task p.task x) k result out new → Polled shared s n c x k added out new
 told_polled shared s mid new n c x k added result out p t = record {
@@ -177,7 +178,7 @@ told_polled shared s mid new n c x k added result out p t = record {
   one = p.one;
   given = t.given;
   left = t.left ∙ ap (after_told n c k (with_task p.task x) (reply_in result)) p.left
-      ∙ ap (λ es. with_entry p.entry (with_conn c (replied n (is_over (reply_in result) p.task) (reply_in result) k) (with_streams es s))) (left_twice (is_over (reply_in result) p.task) n (with_task p.task x) (polled (reply_in result) p.task x) s.streams);
+      ∙ ap (λ es. with_entry p.entry (with_conn c (replied n (is_over (reply_in result) p.task) (reply_in result) k) (with_streams es s))) (left_twice (is_over (reply_in result) p.task) n (with_task p.task x) (polled s.now (reply_in result) p.task x) s.streams);
 }
 
 fell_polled : (shared : Bool) (s mid new : State) (n c : ℕ) (x : Stream) (k : Conn) (added : List Entry) (result : Poll Stepped) (out : Outs) → (p : PollsStream shared s n x added result mid) → Drops mid n c (with_task p.task x) k result out new → PollFell shared s n c x k added out new
@@ -214,14 +215,14 @@ conns_left shared s mid n x added result p = ap (λ (z : State). z.conns) p.left
 
 -- a reply of a stream that isn't over
 pub passed_on : (s new : State) (n c : ℕ) (x : Stream) (k : Conn) (reply : Reply) → is_closed x.task.session.state ≡ false → new ≡ after_passed n c k x reply s → new ≡ after_told n c k x (Some reply) s
-passed_on s new n c x k reply still e = e ∙ sym (ap (λ over. with_conn c (replied n (is_closed x.task.session.state) (Some reply) k) (with_streams (streams_left over n (passed x) s.streams) s)) still)
+passed_on s new n c x k reply still e = e ∙ sym (ap (λ over. with_conn c (replied n (is_closed x.task.session.state) (Some reply) k) (with_streams (streams_left over n (passed s.now x) s.streams) s)) still)
 
 -- a reply of a stream that is over, which is let go of then
 pub passed_over : (s mid new : State) (n c : ℕ) (x : Stream) (k : Conn) (reply : Reply) → is_closed x.task.session.state ≡ true → mid ≡ after_passed n c k x reply s → new ≡ with_streams (without n mid.streams) mid → new ≡ after_told n c k x (Some reply) s
 passed_over s mid new n c x k reply over e f =
     f ∙ ap (λ (z : State). with_streams (without n z.streams) z) e
-    ∙ ap (λ es. with_conn c (replied n (is_closed x.task.session.state) (Some reply) k) (with_streams es s)) (without_put n (passed x) s.streams)
-    ∙ sym (ap (λ b. with_conn c (replied n (is_closed x.task.session.state) (Some reply) k) (with_streams (streams_left b n (passed x) s.streams) s)) over)
+    ∙ ap (λ es. with_conn c (replied n (is_closed x.task.session.state) (Some reply) k) (with_streams es s)) (without_put n (passed s.now x) s.streams)
+    ∙ sym (ap (λ b. with_conn c (replied n (is_closed x.task.session.state) (Some reply) k) (with_streams (streams_left b n (passed s.now x) s.streams) s)) over)
 
 -- it has no unit
 closed_ends : (why : Undo) (state : TxnState) → is_closed state ≡ true → option_to_list (undone_of why state) ≡ []
@@ -234,7 +235,7 @@ closed_ends why (Dead cause) e = absurd (cc)
 
 pub over_ends : (why : Undo) (s mid : State) (n c : ℕ) (x : Stream) (k : Conn) (reply : Reply) → is_closed x.task.session.state ≡ true → at n s.streams ≡ Some x → mid ≡ after_passed n c k x reply s → end_of why (at n mid.streams) ≡ []
 over_ends why s mid n c x k reply over known e =
-    ap (end_of why) (ap (λ (z : State). at n z.streams) e ∙ at_put n x (passed x) s.streams known) ∙ closed_ends why x.task.session.state over
+    ap (end_of why) (ap (λ (z : State). at n z.streams) e ∙ at_put n x (passed s.now x) s.streams known) ∙ closed_ends why x.task.session.state over
 
 -- ---- a stream and its connection
 
@@ -295,7 +296,7 @@ Passes old new n c = (k : Conn) (x : Stream) (reply : Reply) → at c old.state.
 pub passes_put : (old new : Seen) (n c : ℕ) → Known old n c → Passes old new n c → PutBoth old new n c
 passes_put old new n c e p = record {
   before = e.stream;
-  after = passed e.stream;
+  after = passed old.state.now e.stream;
   conn = replied n (is_closed e.stream.task.session.state) (Some reply.Closed) e.conn;
   known = e.stream_at;
   stream = refl;
@@ -304,14 +305,14 @@ passes_put old new n c e p = record {
 }
 
 abbrev pub with_conns : Numbered Conn → Seen → Seen
-with_conns conns h = with_state (record { conns = conns; streams = h.state.streams; opened = h.state.opened; next = h.state.next; version = h.state.version; events = h.state.events; stopped = h.state.stopped }) h
+with_conns conns h = with_state (record { conns = conns; streams = h.state.streams; opened = h.state.opened; next = h.state.next; version = h.state.version; events = h.state.events; now = h.state.now; stopped = h.state.stopped }) h
 
 -- the first request of the stream was passed, and then its connection was told
-pub both_passed : (old mid : Seen) (n c : ℕ) (over : Bool) (k : Conn) (x : Stream) (reply : Reply) (conns : Numbered Conn) → mid ≡ with_state (with_streams (put n (passed x) old.state.streams) old.state) old → over ≡ is_closed x.task.session.state → conns ≡ put c (replied n over (Some reply) k) mid.state.conns
+pub both_passed : (old mid : Seen) (n c : ℕ) (over : Bool) (k : Conn) (x : Stream) (reply : Reply) (conns : Numbered Conn) → mid ≡ with_state (with_streams (put n (passed old.state.now x) old.state.streams) old.state) old → over ≡ is_closed x.task.session.state → conns ≡ put c (replied n over (Some reply) k) mid.state.conns
     → with_conns conns mid ≡ with_state (after_passed n c k x reply old.state) old
 both_passed old mid n c over k x reply conns is closed told =
     ap (λ l. with_conns l mid) told ∙ ap (λ (h : Seen). with_conns (put c (replied n over (Some reply) k) h.state.conns) h) is
-    ∙ ap (λ b. with_state (with_conn c (replied n b (Some reply) k) (with_streams (put n (passed x) old.state.streams) old.state)) old) closed
+    ∙ ap (λ b. with_state (with_conn c (replied n b (Some reply) k) (with_streams (put n (passed old.state.now x) old.state.streams) old.state)) old) closed
 
 abbrev pub IsTold : Seen → Seen → ℕ → ℕ → List Entry → Type 0
 IsTold old new n c added = (k : Conn) (x : Stream) (reply : Reply) → at c old.state.conns ≡ Some k → at n old.state.streams ≡ Some x → (added ≡ []) × (new.state ≡ after_told n c k x (Some reply) old.state)

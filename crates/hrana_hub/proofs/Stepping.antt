@@ -7,14 +7,14 @@ use Rattle.engine_core.specs.Transactions.{Lives}
 use Rattle.engine_core.specs.declared.statement.BoundStmt.{BoundStmt}
 use Rattle.engine_core.specs.declared.entries.Answer.{Answer}
 use Rattle.hrana_hub.specs.declared.events.Event.{Event}
-use Rattle.hrana_hub.specs.declared.events.Event.TheVariants.{Opened, Text, Binary, Lost, Poll, Stop}
+use Rattle.hrana_hub.specs.declared.events.Event.TheVariants.{Opened, Text, Binary, Lost, Moment, Poll, Stop}
 use Rattle.hrana_hub.specs.declared.limits.TheConstants.{MAX_EVENTS}
 use Rattle.hrana_hub.specs.Maps.{at}
 use Rattle.hrana_hub.specs.State.{Conn, State, Seen, with_state}
 use Rattle.hrana_hub.specs.Adds.{Adds}
 use Rattle.hrana_hub.specs.Agrees.{HubAgrees, IsCounted, IsAhead}
 use Rattle.hrana_hub.specs.Arrivals.{nothing, closing, quiet}
-use Rattle.hrana_hub.specs.Ended.{LossFrees}
+use Rattle.hrana_hub.specs.Moments.{LossFrees}
 use Rattle.hrana_hub.specs.Step.{Step, Comes, Goes, Heard, TextSteps, BinarySteps, is_short, fits, may_come, counted, with_new_conn}
 use Rattle.hrana_hub.proofs.Adding.{alike, adds_from}
 use Rattle.hrana_hub.proofs.Agreeing.{same_agrees}
@@ -41,6 +41,7 @@ comes_counted s (Opened c) = refl
 comes_counted s (Text c text) = refl
 comes_counted s (Binary c) = refl
 comes_counted s (Lost c) = refl
+comes_counted s (Moment now) = refl
 comes_counted s (Poll stream) = refl
 comes_counted s Stop = refl
 
@@ -69,6 +70,7 @@ frees_counted event old mid new is h = by event (subst (λ (s : Seen). LossFrees
     by (Text c text) f = f
     by (Binary c) f = f
     by (Lost c) f = f
+    by (Moment now) f = f
     by (Poll stream) f = f
     by Stop f = f
 

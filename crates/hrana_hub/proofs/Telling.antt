@@ -1,5 +1,5 @@
 -- The story of a stream goes on: where it opens, over each request that is accepted, over each poll.
-use Rattle.std.proofs.Common.{◌≡◌, ℕ, ℤ, Bool, true, false, cond, nat_eq, List, [], ◌∷◌, ◌++◌, map, drop, length, All, Option, None, Some, option_to_list, refl, sym, ap, ◌∙◌, subst, append-nil, append_assoc}
+use Rattle.std.proofs.Common.{◌≡◌, ◌&&◌, ℕ, ℤ, Bool, true, false, not, cond, nat_eq, List, [], ◌∷◌, ◌++◌, map, drop, length, All, Option, None, Some, option_to_list, refl, sym, ap, ◌∙◌, subst, append-nil, append_assoc}
 use Rattle.std.proofs.lemmas.List.{map-append}
 use Rattle.std.proofs.lemmas.List.Elements.{All-head}
 use Rattle.stream_requests.specs.declared.asks.Ask.{Ask}
@@ -7,7 +7,7 @@ use Rattle.stream_requests.specs.declared.replies.Reply.{Reply}
 use Rattle.http_wire.specs.declared.outs.Outs.{Outs}
 use Rattle.engine_core.specs.declared.entries.Entry.{Entry}
 use Rattle.engine_core.specs.declared.entries.Entry.TheVariants as entry
-use Rattle.stream_task.specs.Doing.{work_of}
+use Rattle.stream_task.specs.Doing.{Session, work_of}
 use Rattle.stream_task.specs.Laws.{replies, said_by, TaskMeans}
 use Rattle.stream_task.specs.Polls.{is_waiting}
 use Rattle.stream_task.specs.Table.{IsVersioned}
@@ -18,37 +18,53 @@ use Rattle.stream_task.specs.declared.task.Stepped.{Stepped}
 use Rattle.stream_task.specs.declared.task.Stepped.TheVariants as stepped
 use Rattle.stream_task.specs.declared.work.Work.{Work}
 use Rattle.hrana_hub.specs.declared.events.Event.{Event}
-use Rattle.hrana_hub.specs.declared.events.Event.TheVariants.{Opened, Text, Binary, Lost, Stop}
+use Rattle.hrana_hub.specs.declared.events.Event.TheVariants.{Opened, Text, Binary, Lost, Moment, Stop}
 use Rattle.hrana_hub.specs.declared.events.Event.TheVariants as event
 use Rattle.hrana_hub.specs.Maps.{at}
+use Rattle.hrana_hub.specs.Moments.{expired}
 use Rattle.hrana_hub.specs.State.{Conn, Stream, State}
 use Rattle.hrana_hub.specs.Arrivals.{fresh, waiting}
 use Rattle.hrana_hub.specs.Polled.{Polled, reply_in, first_id, later_ids, still_wait, answer, polled, seen_of}
-use Rattle.hrana_hub.specs.Stories.{Story, no_story, told_on, text_in, ids_in, asks_in, ids_by, asks_by, used_by, told_by, BeganAt, new_session, answer_text, Tells, HasTold}
+use Rattle.hrana_hub.specs.Stories.{Story, Chapter, no_story, told_on, turned, meant, text_in, ids_in, asks_in, ids_by, asks_by, used_by, told_by, expires_by, is_begun_in, session_in, BeganAt, answer_text, Tells, HasTold}
 use Rattle.hrana_hub.proofs.Paired.{Pairs, first_waits}
 
 -- ---- what an event adds to a story
 
 abbrev pub extended : Story → List ℤ → List Work → List Entry → List (List ℕ) → Story
-extended t ids asks used texts = record { ids = t.ids ++ ids; asks = t.asks ++ asks; used = t.used ++ used; texts = t.texts ++ texts }
+extended t ids asks used texts = record { ids = t.ids ++ ids; before = t.before; start = t.start; asks = t.asks ++ asks; used = t.used ++ used; texts = t.texts ++ texts }
 
 pub told_is : (n : ℕ) (t : Story) (event : Event) (s : State) (added : List Entry) (out : Outs) (new : State) (ids : List ℤ) (asks : List Work) (used : List Entry) (texts : List (List ℕ))
-    → ids_by n event s new ≡ ids → asks_by n event s new ≡ asks → used_by n event added ≡ used → told_by n event out ≡ texts → told_on n t event s added out new ≡ extended t ids asks used texts
-told_is n t event s added out new ids asks used texts a b c d =
-    ap (λ z. extended t z (asks_by n event s new) (used_by n event added) (told_by n event out)) a
+    → expires_by n event s new ≡ false → ids_by n event s new ≡ ids → asks_by n event s new ≡ asks → used_by n event added ≡ used → told_by n event out ≡ texts → told_on n t event s added out new ≡ extended t ids asks used texts
+told_is n t event s added out new ids asks used texts e a b c d =
+    ap (λ z. turned z (session_in (at n new.streams)) (extended t (ids_by n event s new) (asks_by n event s new) (used_by n event added) (told_by n event out))) e
+    ∙ ap (λ z. extended t z (asks_by n event s new) (used_by n event added) (told_by n event out)) a
     ∙ ap (λ z. extended t ids z (used_by n event added) (told_by n event out)) b
     ∙ ap (λ z. extended t ids asks z (told_by n event out)) c
     ∙ ap (λ z. extended t ids asks used z) d
 
-nothing_more : (t : Story) → extended t [] [] [] [] ≡ t
+pub nothing_more : (t : Story) → extended t [] [] [] [] ≡ t
 nothing_more t =
-    ap (λ z. record { ids = z; asks = t.asks ++ []; used = t.used ++ []; texts = t.texts ++ [] }) (append-nil t.ids)
-    ∙ ap (λ z. record { ids = t.ids; asks = z; used = t.used ++ []; texts = t.texts ++ [] }) (append-nil t.asks)
-    ∙ ap (λ z. record { ids = t.ids; asks = t.asks; used = z; texts = t.texts ++ [] }) (append-nil t.used)
-    ∙ ap (λ z. record { ids = t.ids; asks = t.asks; used = t.used; texts = z }) (append-nil t.texts)
+    ap (λ z. record { ids = z; before = t.before; start = t.start; asks = t.asks ++ []; used = t.used ++ []; texts = t.texts ++ [] }) (append-nil t.ids)
+    ∙ ap (λ z. record { ids = t.ids; before = t.before; start = t.start; asks = z; used = t.used ++ []; texts = t.texts ++ [] }) (append-nil t.asks)
+    ∙ ap (λ z. record { ids = t.ids; before = t.before; start = t.start; asks = t.asks; used = z; texts = t.texts ++ [] }) (append-nil t.used)
+    ∙ ap (λ z. record { ids = t.ids; before = t.before; start = t.start; asks = t.asks; used = t.used; texts = z }) (append-nil t.texts)
 
-pub told_same : (n : ℕ) (t : Story) (event : Event) (s : State) (added : List Entry) (out : Outs) (new : State) → ids_by n event s new ≡ [] → asks_by n event s new ≡ [] → used_by n event added ≡ [] → told_by n event out ≡ [] → told_on n t event s added out new ≡ t
-told_same n t event s added out new a b c d = told_is n t event s added out new [] [] [] [] a b c d ∙ nothing_more t
+pub told_same : (n : ℕ) (t : Story) (event : Event) (s : State) (added : List Entry) (out : Outs) (new : State) → expires_by n event s new ≡ false → ids_by n event s new ≡ [] → asks_by n event s new ≡ [] → used_by n event added ≡ [] → told_by n event out ≡ [] → told_on n t event s added out new ≡ t
+told_same n t event s added out new e a b c d = told_is n t event s added out new [] [] [] [] e a b c d ∙ nothing_more t
+
+-- a stream that is as before doesn't expire
+pub expires_none : (n : ℕ) (event : Event) (s new : State) → at n new.streams ≡ at n s.streams → expires_by n event s new ≡ false
+expires_none n (Moment moment) s new e = ap (λ o. is_begun_in (at n s.streams) && not (is_begun_in o)) e ∙ by (is_begun_in (at n s.streams))
+  where
+    by : (b : Bool) → (b && not b) ≡ false
+    by true = refl
+    by false = refl
+expires_none n (Opened c) s new e = refl
+expires_none n (Text c text) s new e = refl
+expires_none n (Binary c) s new e = refl
+expires_none n (Lost c) s new e = refl
+expires_none n (event.Poll stream) s new e = refl
+expires_none n Stop s new e = refl
 
 drop_same : {A : Type 0} (xs : List A) → drop (length xs) xs ≡ []
 drop_same [] = refl
@@ -64,6 +80,7 @@ ids_none n (Opened c) s new e = refl
 ids_none n (Binary c) s new e = refl
 ids_none n (Lost c) s new e = refl
 ids_none n (event.Poll stream) s new e = refl
+ids_none n (Moment moment) s new e = refl
 ids_none n Stop s new e = refl
 
 pub asks_none : (n : ℕ) (event : Event) (s new : State) → at n new.streams ≡ at n s.streams → asks_by n event s new ≡ []
@@ -72,6 +89,7 @@ asks_none n (Opened c) s new e = refl
 asks_none n (Binary c) s new e = refl
 asks_none n (Lost c) s new e = refl
 asks_none n (event.Poll stream) s new e = refl
+asks_none n (Moment moment) s new e = refl
 asks_none n Stop s new e = refl
 
 cond_nil : {A : Type 0} (b : Bool) → ◌≡◌ {A = List A} (cond b [] []) []
@@ -84,6 +102,7 @@ used_none n (Opened c) added e = refl
 used_none n (Text c text) added e = refl
 used_none n (Binary c) added e = refl
 used_none n (Lost c) added e = refl
+used_none n (Moment moment) added e = refl
 used_none n Stop added e = refl
 
 -- ---- what was told is the front
@@ -101,7 +120,7 @@ more_front shared had t used h = record {
   texts = append-nil t.texts ∙ h.texts;
   others = h.others;
   ids = append-nil t.ids ∙ h.ids;
-  means = λ later rest. (let m = h.means later (used ++ rest) in (m.0, ap (λ l. replies shared had (l ++ later) new_session ((t.used ++ used) ++ rest)) (append-nil t.asks) ∙ ap (λ l. replies shared had (t.asks ++ later) new_session l) (append_assoc t.used used rest) ∙ m.1));
+  means = λ later rest. (let m = h.means later (used ++ rest) in (m.0, ap (λ l. meant shared had t.before t.start (l ++ later) ((t.used ++ used) ++ rest)) (append-nil t.asks) ∙ ap (λ l. meant shared had t.before t.start (t.asks ++ later) l) (append_assoc t.used used rest) ∙ m.1));
 }
 
 -- more requests behind them
@@ -111,13 +130,51 @@ asked_front shared had t ids asks h = record {
   texts = append-nil t.texts ∙ h.texts;
   others = h.others ++ ids;
   ids = ap (λ l. l ++ ids) h.ids ∙ append_assoc (map (λ r. r.0) h.told) h.others ids;
-  means = λ later rest. (let m = h.means (asks ++ later) rest in (m.0, ap (λ l. replies shared had ((t.asks ++ asks) ++ later) new_session (l ++ rest)) (append-nil t.used) ∙ ap (λ l. replies shared had l new_session (t.used ++ rest)) (append_assoc t.asks asks later) ∙ m.1));
+  means = λ later rest. (let m = h.means (asks ++ later) rest in (m.0, ap (λ l. meant shared had t.before t.start ((t.asks ++ asks) ++ later) (l ++ rest)) (append-nil t.used) ∙ ap (λ l. meant shared had t.before t.start l (t.used ++ rest)) (append_assoc t.asks asks later) ∙ m.1));
+}
+
+-- ---- where a stream expires
+
+meant_more : (shared : Bool) (had : ℕ → ℕ) (cs : List Chapter) (start after : Session) (asks later : List Work) (used rest : List Entry)
+    → meant shared had (cs ++ record { start = start; asks = asks; used = used } ∷ []) after later rest ≡ meant shared had cs start asks used ++ replies shared had later after rest
+meant_more shared had [] start after asks later used rest = refl
+meant_more shared had (c ∷ cs) start after asks later used rest =
+    ap (λ l. replies shared had c.asks c.start c.used ++ l) (meant_more shared had cs start after asks later used rest)
+    ∙ sym (append_assoc (replies shared had c.asks c.start c.used) (meant shared had cs start asks used) (replies shared had later after rest))
+
+-- what the chapter means, where nothing comes behind it
+chapter_means : (shared : Bool) (had : ℕ → ℕ) (t : Story) (all : List Reply) → meant shared had t.before t.start (t.asks ++ []) (t.used ++ []) ≡ all → meant shared had t.before t.start t.asks t.used ≡ all
+chapter_means shared had t all e = ap (λ l. meant shared had t.before t.start l t.used) (sym (append-nil t.asks)) ∙ ap (λ l. meant shared had t.before t.start (t.asks ++ []) l) (sym (append-nil t.used)) ∙ e
+
+pub expired_front : (shared : Bool) (had : ℕ → ℕ) (t : Story) (after : Session) → HasTold shared had t → HasTold shared had (turned true after t)
+expired_front shared had t after h = record {
+  told = h.told;
+  texts = h.texts;
+  others = h.others;
+  ids = h.ids;
+  means = λ later rest.
+      (let m = h.means [] [] in
+      let left = replies shared had later after rest in
+      (m.0 ++ left, meant_more shared had t.before t.start after t.asks later t.used rest ∙ ap (λ l. l ++ left) (chapter_means shared had t _ m.1) ∙ append_assoc (map (λ r. r.1) h.told) m.0 left));
+}
+
+pub expired_tells : (shared : Bool) (had : ℕ → ℕ) (t : Story) (x : Stream) → x.task.asks ≡ [] → Tells shared had t x → Tells shared had (turned true (expired x).task.session t) (expired x)
+expired_tells shared had t x idle h = record {
+  told = h.told;
+  texts = h.texts;
+  ids = h.ids;
+  means = λ later rest.
+      (let after = (expired x).task.session in
+      let left = replies shared had later after rest in
+      let said = map (λ r. r.1) h.told in
+      let all : meant shared had t.before t.start t.asks t.used ≡ said ++ [] = chapter_means shared had t _ (h.means [] []) ∙ ap (λ asks. said ++ replies shared had (asks ++ []) x.task.session []) idle in
+      meant_more shared had t.before t.start after t.asks later t.used rest ∙ ap (λ l. l ++ left) (all ∙ append-nil said));
 }
 
 -- ---- a stream that opens, and one that is asked
 
-pub fresh_tells : (shared : Bool) (had : ℕ → ℕ) (c n : ℕ) → Tells shared had no_story (fresh c n)
-fresh_tells shared had c n = record { told = []; texts = refl; ids = refl; means = λ later rest. refl }
+pub fresh_tells : (shared : Bool) (had : ℕ → ℕ) (now c n : ℕ) → Tells shared had no_story (fresh now c n)
+fresh_tells shared had now c n = record { told = []; texts = refl; ids = refl; means = λ later rest. refl }
 
 pub asked_tells : (shared : Bool) (had : ℕ → ℕ) (t : Story) (x : Stream) (id : ℤ) (what : Ask) → Tells shared had t x → Tells shared had (extended t (id ∷ []) (option_to_list (work_of what)) [] []) (waiting id what x)
 asked_tells shared had t x id what h =
@@ -127,8 +184,8 @@ asked_tells shared had t x id what h =
       texts = append-nil t.texts ∙ h.texts;
       ids = ap (λ l. l ++ id ∷ []) h.ids ∙ append_assoc (map (λ r. r.0) h.told) x.waits (id ∷ []);
       means = λ later rest.
-          ap (λ l. replies shared had ((t.asks ++ ws) ++ later) new_session (l ++ rest)) (append-nil t.used)
-          ∙ ap (λ l. replies shared had l new_session (t.used ++ rest)) (append_assoc t.asks ws later)
+          ap (λ l. meant shared had t.before t.start ((t.asks ++ ws) ++ later) (l ++ rest)) (append-nil t.used)
+          ∙ ap (λ l. meant shared had t.before t.start l (t.used ++ rest)) (append_assoc t.asks ws later)
           ∙ h.means (ws ++ later) rest
           ∙ ap (λ l. map (λ r. r.1) h.told ++ replies shared had l x.task.session rest) (sym (append_assoc x.task.asks ws later));
     }
@@ -168,7 +225,7 @@ versioned had seen (Some (entry.Began unit by)) h = All-head (BeganAt had seen.v
 versioned had seen (Some e) h = tt
 
 pub polled_tells : TaskMeans → (shared : Bool) (had : ℕ → ℕ) (s : State) (n : ℕ) (x : Stream) (k : Conn) (added : List Entry) (out : Outs) (new : State) (t : Story) → is_waiting x.task.asks ≡ true → Pairs x → All (BeganAt had s.version) added
-    → (p : Polled shared s n x.conn x k added out new) → Tells shared had t x → Tells shared had (extended t [] [] added (text_in out.out)) (polled (reply_in p.result) p.task x)
+    → (p : Polled shared s n x.conn x k added out new) → Tells shared had t x → Tells shared had (extended t [] [] added (text_in out.out)) (polled s.now (reply_in p.result) p.task x)
 polled_tells law shared had s n x k added out new t waits paired began p h =
     let mine = told_in x.waits p.result in
     let still = still_wait (reply_in p.result) x.waits in
@@ -181,8 +238,8 @@ polled_tells law shared had s n x k added out new t waits paired began p h =
       ids = append-nil t.ids ∙ h.ids ∙ ap (λ l. before ++ l) (told_ids x.waits p.result (first_waits x.waits x.task.asks waits paired)) ∙ sym (append_assoc before (map (λ r. r.0) mine) still) ∙ ap (λ l. l ++ still) (sym (map-append (λ r. r.0) h.told mine));
       means = λ later rest.
           (let left = replies shared had (p.task.asks ++ later) p.task.session rest in
-          ap (λ l. replies shared had (l ++ later) new_session ((t.used ++ added) ++ rest)) (append-nil t.asks)
-          ∙ ap (λ l. replies shared had (t.asks ++ later) new_session l) (append_assoc t.used added rest)
+          ap (λ l. meant shared had t.before t.start (l ++ later) ((t.used ++ added) ++ rest)) (append-nil t.asks)
+          ∙ ap (λ l. meant shared had t.before t.start (t.asks ++ later) l) (append_assoc t.used added rest)
           ∙ h.means later (added ++ rest)
           ∙ ap (λ l. said ++ replies shared had (x.task.asks ++ later) x.task.session (l ++ rest)) p.one
           ∙ ap (λ l. said ++ l) (law shared had (seen_of p.by s) x.task p.entry p.result p.task had_seen p.polls p.found later rest)

@@ -79,12 +79,12 @@ waiters_put n x y es waits added t t' e r h k w = elim (waited (numbered k) (num
   | inr here ↦ known_put n k x y es e (ap is_some (ap (λ j. at j es) (sym (ap (λ (s : StreamNo). s.0) here)) ∙ e))
 ]
 
-pub waiters_without : (n : ℕ) (es : Numbered Stream) (added : Option Entry) (t between t' : Turns) → IsStrictlySortedBy nat_cmp (keys_of es) → Rests (numbered n) false added t between → t' ≡ after_loss between (numbered n)
-    → AreKnown t.waiters es → AreKnown t'.waiters (without n es)
-waiters_without n es added t between t' rising r lost h k w =
+-- who waits after the end of a stream waited before, and is another one
+pub waits_on : (n k : ℕ) (added : Option Entry) (t between t' : Turns) → Rests (numbered n) false added t between → t' ≡ after_loss between (numbered n) → has (numbered k) t'.waiters ≡ true → (k ≢ n) × (has (numbered k) t.waiters ≡ true)
+waits_on n k added t between t' r lost w =
     let left : has (numbered k) (without_number (numbered n) between.waiters) ≡ true = sym (ap (λ (u : Turns). has (numbered k) u.waiters) lost) ∙ w in
     let other : k ≢ n = λ i. true≢false (sym left ∙ (ap (λ j. has (numbered j) (without_number (numbered n) between.waiters)) i ∙ has_gone (numbered n) between.waiters)) in
     elim (waited (numbered k) (numbered n) false added t between r (has_left (numbered k) (numbered n) between.waiters left)) [
-      | inl was ↦ ap is_some (at_without_other n k es rising other) ∙ h k was
+      | inl was ↦ (other, was)
       | inr here ↦ absurd (other (sym (ap (λ (s : StreamNo). s.0) here)))
     ]

@@ -70,7 +70,7 @@ saying c message s = record { given = tells c message; state = s }
 -- ---- connections
 
 abbrev pub with_conn : ℕ → Conn → State → State
-with_conn c k s = record { conns = put c k s.conns; streams = s.streams; opened = s.opened; next = s.next; version = s.version; events = s.events; stopped = s.stopped }
+with_conn c k s = record { conns = put c k s.conns; streams = s.streams; opened = s.opened; next = s.next; version = s.version; events = s.events; now = s.now; stopped = s.stopped }
 
 abbrev pub greeted : Conn → Conn
 greeted k = record { greeted = true; closing = k.closing; texts = k.texts; ids = k.ids; streams = k.streams; outstanding = k.outstanding }
@@ -98,8 +98,9 @@ on_hello false c k s = closing c k (Some (Message (text_of (server.HelloError (e
 
 -- ---- streams
 
-abbrev pub fresh : ℕ → ℕ → Stream
-fresh c n = record { conn = c; waits = []; task = new_task (numbered n) false }
+-- a stream that opens at this moment
+abbrev pub fresh : ℕ → ℕ → ℕ → Stream
+fresh now c n = record { conn = c; waits = []; last_answer = now; task = new_task (numbered n) false }
 
 -- the connection with one more stream
 abbrev pub joined : ℤ → ℕ → Conn → Conn
@@ -108,12 +109,12 @@ joined id n k = record { greeted = k.greeted; closing = k.closing; texts = k.tex
 abbrev pub with_stream : ℕ → Conn → ℤ → State → State
 with_stream c k id s = record {
   conns = put c (joined id (s.opened + 1) k) s.conns;
-  streams = placed (s.opened + 1) (fresh c (s.opened + 1)) s.streams;
+  streams = placed (s.opened + 1) (fresh s.now c (s.opened + 1)) s.streams;
   opened = s.opened + 1;
   next = s.next;
   version = s.version;
   events = s.events;
-  stopped = s.stopped;
+  now = s.now; stopped = s.stopped;
 }
 
 abbrev pub opens_unless : Bool → ℕ → Conn → ℤ → ℤ → State → Went
@@ -137,7 +138,7 @@ unopened c id other s = saying c (refusal id code.StreamNotOpen) s
 
 -- the stream with one more request
 abbrev pub waiting : ℤ → Ask → Stream → Stream
-waiting id what x = record { conn = x.conn; waits = x.waits ++ id ∷ []; task = asked x.task what }
+waiting id what x = record { conn = x.conn; waits = x.waits ++ id ∷ []; last_answer = x.last_answer; task = asked x.task what }
 
 -- the connection with one more request that waits. A close that arrived frees the id.
 abbrev pub waited : ℤ → Bool → Conn → Conn
@@ -151,7 +152,7 @@ with_request c k stream n x id what s = record {
   next = s.next;
   version = s.version;
   events = s.events;
-  stopped = s.stopped;
+  now = s.now; stopped = s.stopped;
 }
 
 abbrev pub queues : Option Ask → ℕ → Conn → ℤ → ℕ → Stream → ℤ → State → Went

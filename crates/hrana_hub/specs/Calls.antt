@@ -1,7 +1,7 @@
 -- What the calls beside `step` answer.
-use Rattle.std.specs.Prelude.{ℕ, Bool, true, false, not, ◌&&◌, nat_lt, cond, [], ◌∷◌, Option, None, Some}
+use Rattle.std.specs.Prelude.{ℕ, Bool, true, false, not, ◌&&◌, nat_lt, Option, None, Some}
 use Rattle.stream_task.specs.Polls.{is_waiting}
-use Rattle.hrana_hub.specs.Maps.{Numbered, at}
+use Rattle.hrana_hub.specs.Maps.{Numbered, at, first_that}
 use Rattle.hrana_hub.specs.State.{Conn, Stream}
 use Rattle.hrana_hub.specs.Step.{has_room}
 
@@ -20,5 +20,4 @@ is_ready conns x = is_waiting x.task.asks && is_heard (at x.conn conns)
 
 -- the first of these that is above the number and ready
 abbrev pub first_ready : ℕ → Numbered Conn → Numbered Stream → Option ℕ
-first_ready after conns [] = None
-first_ready after conns (entry ∷ entries) = cond (nat_lt after entry.0 && is_ready conns entry.1) (Some entry.0) (first_ready after conns entries)
+first_ready after conns streams = first_that (λ n. nat_lt after n) (is_ready conns) streams

@@ -8,8 +8,6 @@ use Rattle.engine_core.specs.declared.entries.Undo.{Undo}
 use Rattle.stream_task.specs.Adds.{undone_of}
 use Rattle.hrana_hub.specs.Maps.{Numbered, at, without}
 use Rattle.stream_task.specs.Together.{numbered}
-use Rattle.hrana_hub.specs.declared.events.Event.{Event}
-use Rattle.hrana_hub.specs.declared.events.Event.TheVariants.{Lost}
 use Rattle.hrana_hub.specs.State.{Conn, Stream, State, Seen}
 
 -- the entry of the unit that a stream has open
@@ -41,7 +39,7 @@ let_go (n ∷ numbers) streams = let_go numbers (without n streams)
 
 -- the connection is gone, and its streams with it
 abbrev pub without_conn : ℕ → Conn → State → State
-without_conn c k s = record { conns = without c s.conns; streams = let_go k.streams s.streams; opened = s.opened; next = s.next; version = s.version; events = s.events; stopped = s.stopped }
+without_conn c k s = record { conns = without c s.conns; streams = let_go k.streams s.streams; opened = s.opened; next = s.next; version = s.version; events = s.events; now = s.now; stopped = s.stopped }
 
 -- ---- all streams, in rising number
 
@@ -50,15 +48,10 @@ all_ends why [] = []
 all_ends why (entry ∷ entries) = end_of why (Some entry.1) ++ all_ends why entries
 
 abbrev pub at_its_end : State → State
-at_its_end s = record { conns = []; streams = []; opened = s.opened; next = s.next; version = s.version; events = s.events; stopped = true }
+at_its_end s = record { conns = []; streams = []; opened = s.opened; next = s.next; version = s.version; events = s.events; now = s.now; stopped = true }
 
 -- ---- what a lost connection frees
 
 abbrev pub Frees : ℕ → Option Conn → Seen → Type 0
 Frees c None new = Unit {0}
 Frees c (Some k) new = (at c new.state.conns ≡ None) × All (IsGone new) k.streams
-
--- a lost connection is gone, and so are its streams
-abbrev pub LossFrees : Event → Seen → Seen → Type 0
-LossFrees (Lost c) old new = Frees c (at c old.state.conns) new
-LossFrees event old new = Unit {0}

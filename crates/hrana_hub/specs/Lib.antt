@@ -4,6 +4,7 @@ pub mod Texts
 pub mod Arrivals
 pub mod Polled
 pub mod Ended
+pub mod Moments
 pub mod Step
 pub mod Settled
 pub mod Agrees

@@ -1,5 +1,5 @@
 -- Maps by number, as the lists of their entries in rising number.
-use Rattle.std.specs.Prelude.{◌≡◌, ◌<◌, ◌≤◌, ℕ, ℤ, List, Option, length, get_or, Result, Ok, Err}
+use Rattle.std.specs.Prelude.{◌≡◌, ◌<◌, ◌≤◌, ◌&&◌, ℕ, ℤ, Bool, cond, List, [], ◌∷◌, Option, None, Some, length, get_or, Result, Ok, Err}
 use Rattle.std.specs.Ordering.{nat_cmp, int_cmp}
 use Rattle.std.specs.Map.{lookup, set_value, remove_entry}
 use Rattle.std.specs.BTreeMap.{is_at, insert_entry}
@@ -22,6 +22,16 @@ placed n x entries = insert_entry nat_cmp entries n x
 -- nothing stands at the number
 abbrev pub without : {A : Type 0} → ℕ → Numbered A → Numbered A
 without n entries = remove_entry (is_at (nat_cmp n)) entries
+
+-- each has become another
+abbrev pub each : {A : Type 0} → (A → A) → Numbered A → Numbered A
+each f [] = []
+each f (entry ∷ entries) = (entry.0, f entry.1) ∷ each f entries
+
+-- the first whose number is within a bound, and which passes a test
+abbrev pub first_that : {A : Type 0} → (ℕ → Bool) → (A → Bool) → Numbered A → Option ℕ
+first_that within test [] = None
+first_that within test (entry ∷ entries) = cond (within entry.0 && test entry.1) (Some entry.0) (first_that within test entries)
 
 -- ---- the ids that a client gives
 

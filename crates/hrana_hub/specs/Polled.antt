@@ -58,8 +58,13 @@ abbrev pub still_wait : Option Reply → List ℤ → List ℤ
 still_wait None ids = ids
 still_wait (Some reply) ids = later_ids ids
 
-abbrev pub polled : Option Reply → Task → Stream → Stream
-polled reply task x = record { conn = x.conn; waits = still_wait reply x.waits; task = task }
+-- the moment of the last answer
+abbrev pub answered_at : ℕ → Option Reply → ℕ → ℕ
+answered_at now None before = before
+answered_at now (Some reply) before = now
+
+abbrev pub polled : ℕ → Option Reply → Task → Stream → Stream
+polled now reply task x = record { conn = x.conn; waits = still_wait reply x.waits; last_answer = answered_at now reply x.last_answer; task = task }
 
 abbrev pub streams_left : Bool → ℕ → Stream → Numbered Stream → Numbered Stream
 streams_left over n x streams = cond over (without n streams) (put n x streams)
@@ -76,14 +81,14 @@ abbrev pub replied : ℕ → Bool → Option Reply → Conn → Conn
 replied n over reply k = record { greeted = k.greeted; closing = k.closing; texts = k.texts; ids = k.ids; streams = cond over (without_stream n k.streams) k.streams; outstanding = k.outstanding - replies reply }
 
 abbrev pub with_entry : Option Entry → State → State
-with_entry added s = record { conns = s.conns; streams = s.streams; opened = s.opened; next = next_by s.next added; version = version_by added s.version; events = s.events; stopped = s.stopped }
+with_entry added s = record { conns = s.conns; streams = s.streams; opened = s.opened; next = next_by s.next added; version = version_by added s.version; events = s.events; now = s.now; stopped = s.stopped }
 
 abbrev pub with_streams : Numbered Stream → State → State
-with_streams streams s = record { conns = s.conns; streams = streams; opened = s.opened; next = s.next; version = s.version; events = s.events; stopped = s.stopped }
+with_streams streams s = record { conns = s.conns; streams = streams; opened = s.opened; next = s.next; version = s.version; events = s.events; now = s.now; stopped = s.stopped }
 
 abbrev pub after_poll : ℕ → ℕ → Conn → Stream → Option Entry → Option Reply → Task → State → State
 after_poll n c k x added reply task s =
-    with_entry added (with_conn c (replied n (is_over reply task) reply k) (with_streams (streams_left (is_over reply task) n (polled reply task x) s.streams) s))
+    with_entry added (with_conn c (replied n (is_over reply task) reply k) (with_streams (streams_left (is_over reply task) n (polled s.now reply task x) s.streams) s))
 
 -- what a poll sees of the others
 abbrev pub seen_of : Option StreamNo → State → Seen
@@ -106,7 +111,7 @@ pub record Polled (shared : Bool) (s : State) (n c : ℕ) (x : Stream) (k : Conn
 
 -- the stream's requests are dropped
 abbrev pub dropped : Task → Stream → Stream
-dropped task x = record { conn = x.conn; waits = []; task = with_asks task task.session.state [] }
+dropped task x = record { conn = x.conn; waits = []; last_answer = x.last_answer; task = with_asks task task.session.state [] }
 
 -- there was none for the poll, or none for the reply that it made
 abbrev pub FellShort : Poll Stepped → Type 0

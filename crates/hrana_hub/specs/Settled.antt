@@ -18,7 +18,7 @@ use Rattle.hrana_hub.specs.Step.{is_short, closes_short}
 -- ---- the poll
 
 abbrev pub with_task : Task → Stream → Stream
-with_task task x = record { conn = x.conn; waits = x.waits; task = task }
+with_task task x = record { conn = x.conn; waits = x.waits; last_answer = x.last_answer; task = task }
 
 -- The stream has the task that the poll left. The ids of its requests are as before.
 pub record PollsStream (shared : Bool) (s : State) (n : ℕ) (x : Stream) (added : List Entry) (result : Poll Stepped) (new : State) : Type 0 where
@@ -33,15 +33,15 @@ pub record PollsStream (shared : Bool) (s : State) (n : ℕ) (x : Stream) (added
 -- ---- what it gave
 
 -- the stream once its first request was answered
-abbrev pub passed : Stream → Stream
-passed x = record { conn = x.conn; waits = later_ids x.waits; task = x.task }
+abbrev pub passed : ℕ → Stream → Stream
+passed now x = record { conn = x.conn; waits = later_ids x.waits; last_answer = now; task = x.task }
 
 -- a stream that is over isn't let go of yet
 abbrev pub after_passed : ℕ → ℕ → Conn → Stream → Reply → State → State
-after_passed n c k x reply s = with_conn c (replied n (is_closed x.task.session.state) (Some reply) k) (with_streams (put n (passed x) s.streams) s)
+after_passed n c k x reply s = with_conn c (replied n (is_closed x.task.session.state) (Some reply) k) (with_streams (put n (passed s.now x) s.streams) s)
 
 abbrev pub after_told : ℕ → ℕ → Conn → Stream → Option Reply → State → State
-after_told n c k x reply s = with_conn c (replied n (is_over reply x.task) reply k) (with_streams (streams_left (is_over reply x.task) n (polled reply x.task x) s.streams) s)
+after_told n c k x reply s = with_conn c (replied n (is_over reply x.task) reply k) (with_streams (streams_left (is_over reply x.task) n (polled s.now reply x.task x) s.streams) s)
 
 pub record Tells (s : State) (n c : ℕ) (x : Stream) (k : Conn) (result : Poll Stepped) (out : Outs) (new : State) : Type 0 where
   pub found : result ≢ Ready stepped.Broke

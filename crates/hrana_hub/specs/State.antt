@@ -25,6 +25,8 @@ pub record Stream : Type 0 where
   pub conn : ℕ
   -- the ids of the requests that it was asked and hasn't answered, in order
   pub waits : List ℤ
+  -- the moment of its last answer, at first that of its opening
+  pub last_answer : ℕ
   pub task : Task
 
 pub record State : Type 0 where
@@ -37,10 +39,12 @@ pub record State : Type 0 where
   -- how many commits there were
   pub version : ℕ
   pub events : ℕ
+  -- the greatest moment so far
+  pub now : ℕ
   pub stopped : Bool
 
 abbrev pub first_state : State
-first_state = record { conns = []; streams = []; opened = 0; next = 1; version = 0; events = 0; stopped = false }
+first_state = record { conns = []; streams = []; opened = 0; next = 1; version = 0; events = 0; now = 0; stopped = false }
 
 -- what contracts see of a hub
 pub record Seen : Type 0 where

@@ -11,19 +11,20 @@ use Rattle.engine_core.specs.declared.entries.Entry.{Entry}
 use Rattle.engine_core.specs.declared.entries.Undo.TheVariants as undo
 use Rattle.stream_task.specs.Polls.{is_waiting}
 use Rattle.hrana_hub.specs.declared.events.Event.{Event}
-use Rattle.hrana_hub.specs.declared.events.Event.TheVariants.{Opened, Text, Binary, Lost, Poll, Stop}
+use Rattle.hrana_hub.specs.declared.events.Event.TheVariants.{Opened, Text, Binary, Lost, Moment, Poll, Stop}
 use Rattle.hrana_hub.specs.declared.limits.TheConstants.{MAX_CONNECTIONS, MAX_OUTSTANDING, MAX_EVENTS}
 use Rattle.hrana_hub.specs.Maps.{at, placed}
 use Rattle.hrana_hub.specs.State.{Conn, Stream, State, Seen}
 use Rattle.hrana_hub.specs.Arrivals.{Went, quiet, nothing, with_conn, shut, closing, on_answer, IsAfter}
 use Rattle.hrana_hub.specs.Polled.{Polled, PollFell}
 use Rattle.hrana_hub.specs.Ended.{ends_of, without_conn, all_ends, at_its_end}
+use Rattle.hrana_hub.specs.Moments.{expiries, at_moment}
 
 abbrev pub new_conn : Bool → Conn
 new_conn closing = record { greeted = false; closing = closing; texts = []; ids = []; streams = []; outstanding = 0 }
 
 abbrev pub with_new_conn : ℕ → Bool → State → State
-with_new_conn c closing s = record { conns = placed c (new_conn closing) s.conns; streams = s.streams; opened = s.opened; next = s.next; version = s.version; events = s.events; stopped = s.stopped }
+with_new_conn c closing s = record { conns = placed c (new_conn closing) s.conns; streams = s.streams; opened = s.opened; next = s.next; version = s.version; events = s.events; now = s.now; stopped = s.stopped }
 
 -- no entry is added, and it goes so
 pub record Goes (went : Went) (added : List Entry) (out : Outs) (new : State) : Type 0 where
@@ -61,6 +62,12 @@ abbrev pub LostAt : State → ℕ → Option Conn → List Entry → Outs → St
 LostAt s c None added out new = Goes (quiet s) added out new
 LostAt s c (Some k) added out new = (added ≡ ends_of undo.Lost k.streams s.streams) × (out ≡ nothing) × (new ≡ without_conn c k s)
 
+-- ---- moments
+
+-- a moment below the last one changes nothing
+abbrev pub MomentAt : State → ℕ → List Entry → Outs → State → Type 0
+MomentAt s now added out new = MatchBool (nat_lt now s.now) (Goes (quiet s) added out new) ((added ≡ expiries now s.streams) × (out ≡ nothing) × (new ≡ at_moment now s))
+
 -- ---- an event that finds memory
 
 abbrev pub Happens : Option (List ℕ) → Bool → State → Event → List Entry → Outs → State → Type 0
@@ -69,6 +76,7 @@ Happens token shared s (Text c text) added out new = Heard s (at c s.conns) (λ 
 Happens token shared s (Binary c) added out new = Heard s (at c s.conns) (λ k. Goes (closing c k None 1003 s) added out new) added out new
 Happens token shared s (Poll stream) added out new = PolledAt shared s stream.0 (at stream.0 s.streams) added out new
 Happens token shared s (Lost c) added out new = LostAt s c (at c s.conns) added out new
+Happens token shared s (Moment now) added out new = MomentAt s now added out new
 Happens token shared s Stop added out new = (added ≡ all_ends undo.Stop s.streams) × (out ≡ nothing) × (new ≡ at_its_end s)
 
 -- ---- want of memory closes the connection with 1011
@@ -106,7 +114,7 @@ abbrev pub is_short : Outs → Bool
 is_short out = is_1011 out.close
 
 abbrev pub counted : State → State
-counted s = record { conns = s.conns; streams = s.streams; opened = s.opened; next = s.next; version = s.version; events = s.events + 1; stopped = s.stopped }
+counted s = record { conns = s.conns; streams = s.streams; opened = s.opened; next = s.next; version = s.version; events = s.events + 1; now = s.now; stopped = s.stopped }
 
 -- what comes of an event that was counted
 abbrev pub Comes : Option (List ℕ) → Bool → State → Event → List Entry → Outs → State → Type 0
@@ -150,6 +158,7 @@ may_come s (Opened c) = nat_lt 0 c && is_unknown (at c s.conns) && nat_lt (lengt
 may_come s (Text c text) = may_send (at c s.conns)
 may_come s (Binary c) = may_send (at c s.conns)
 may_come s (Lost c) = true
+may_come s (Moment now) = true
 may_come s (Poll stream) = true
 may_come s Stop = true
 

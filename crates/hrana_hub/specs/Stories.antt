@@ -1,6 +1,6 @@
 -- What a run says of the stream of a number: the requests that were accepted for it, the entries that its polls added, and
 -- the replies that they gave.
-use Rattle.std.specs.Prelude.{◌≡◌, ℕ, ℤ, Bool, false, nat_eq, cond, List, [], ◌∷◌, ◌++◌, drop, length, map, All, Option, Some, None}
+use Rattle.std.specs.Prelude.{◌≡◌, ◌&&◌, ℕ, ℤ, Bool, true, false, not, nat_eq, cond, List, [], ◌∷◌, ◌++◌, drop, length, map, All, Option, Some, None}
 use Rattle.stream_requests.specs.declared.replies.Reply.{Reply}
 use Rattle.ws_messages.specs.Server.{answering}
 use Rattle.http_wire.specs.declared.outs.Outs.{Outs}
@@ -13,10 +13,11 @@ use Rattle.stream_task.specs.Laws.{replies}
 use Rattle.stream_task.specs.declared.session.TxnState.TheVariants.{Auto}
 use Rattle.stream_task.specs.declared.work.Work.{Work}
 use Rattle.hrana_hub.specs.declared.events.Event.{Event}
-use Rattle.hrana_hub.specs.declared.events.Event.TheVariants.{Text, Poll}
+use Rattle.hrana_hub.specs.declared.events.Event.TheVariants.{Text, Poll, Moment}
 use Rattle.hrana_hub.specs.Maps.{at}
 use Rattle.hrana_hub.specs.State.{Conn, Stream, State}
 use Rattle.hrana_hub.specs.Arrivals.{text_of}
+use Rattle.hrana_hub.specs.Moments.{is_begun}
 use Rattle.hrana_hub.specs.Run.{Run, RunFrom, start, more}
 
 -- the ids of the requests that wait, and the requests
@@ -56,27 +57,66 @@ abbrev pub told_by : ℕ → Event → Outs → List (List ℕ)
 told_by n (Poll stream) out = cond (nat_eq stream.0 n) (text_in out.out) []
 told_by n event out = []
 
+-- the stream holds a transaction
+abbrev pub is_begun_in : Option Stream → Bool
+is_begun_in None = false
+is_begun_in (Some x) = is_begun x.task.session.state
+
+-- a moment at which the stream expires: it held a transaction before, and not after
+abbrev pub expires_by : ℕ → Event → State → State → Bool
+expires_by n (Moment moment) old new = is_begun_in (at n old.streams) && not (is_begun_in (at n new.streams))
+expires_by n event old new = false
+
+abbrev pub new_session : Session
+new_session = record { state = Auto; texts = [] }
+
+abbrev pub session_in : Option Stream → Session
+session_in None = new_session
+session_in (Some x) = x.task.session
+
 -- ---- the story
 
-pub record Story : Type 0 where
-  -- the requests accepted for the stream and their ids, in the order in which they arrived
-  pub ids : List ℤ
+-- what was accepted for the stream and added by its polls from its opening on, or since it expired, up to where it expired
+pub record Chapter : Type 0 where
+  -- the session that it began with
+  pub start : Session
   pub asks : List Work
-  -- the entries that its polls added
   pub used : List Entry
-  -- the texts of the messages that they gave
+
+pub record Story : Type 0 where
+  -- the ids of the requests accepted for the stream, in the order in which they arrived
+  pub ids : List ℤ
+  -- the chapters that ended when it expired
+  pub before : List Chapter
+  -- this chapter: the session that it began with, the requests, and the entries that its polls added
+  pub start : Session
+  pub asks : List Work
+  pub used : List Entry
+  -- the texts of the messages that its polls gave
   pub texts : List (List ℕ)
 
 abbrev pub no_story : Story
-no_story = record { ids = []; asks = []; used = []; texts = [] }
+no_story = record { ids = []; before = []; start = new_session; asks = []; used = []; texts = [] }
+
+-- where it expires a new chapter begins, with the session that is left
+abbrev pub turned : Bool → Session → Story → Story
+turned false session t = t
+turned true session t = record { ids = t.ids; before = t.before ++ record { start = t.start; asks = t.asks; used = t.used } ∷ []; start = session; asks = []; used = []; texts = t.texts }
 
 abbrev pub told_on : ℕ → Story → Event → State → List Entry → Outs → State → Story
-told_on n t event old added out new = record {
+told_on n t event old added out new = turned (expires_by n event old new) (session_in (at n new.streams)) (record {
   ids = t.ids ++ ids_by n event old new;
+  before = t.before;
+  start = t.start;
   asks = t.asks ++ asks_by n event old new;
   used = t.used ++ used_by n event added;
   texts = t.texts ++ told_by n event out;
-}
+})
+
+-- what the requests mean, chapter by chapter, by the entries of each
+abbrev pub meant : Bool → (ℕ → ℕ) → List Chapter → Session → List Work → List Entry → List Reply
+meant shared had [] session asks used = replies shared had asks session used
+meant shared had (chapter ∷ chapters) session asks used = replies shared had chapter.asks chapter.start chapter.used ++ meant shared had chapters session asks used
 
 abbrev pub story : {token : Option (List ℕ)} {shared : Bool} {first : State} {events : List Event} {entries : List (List Entry)} {outs : List Outs} {s : State} → ℕ → RunFrom token shared first events entries outs s → Story
 story n start = no_story
@@ -95,9 +135,6 @@ AreVersions had (more {s = old} run event added out new fits step) = AreVersions
 
 -- ---- the law of replies
 
-abbrev pub new_session : Session
-new_session = record { state = Auto; texts = [] }
-
 -- the text that answers the request of this id
 abbrev pub answer_text : ℤ × Reply → List ℕ
 answer_text told = text_of (answering told.0 told.1)
@@ -109,7 +146,7 @@ pub record Tells (shared : Bool) (had : ℕ → ℕ) (t : Story) (x : Stream) : 
   pub told : List (ℤ × Reply)
   pub texts : t.texts ≡ map answer_text told
   pub ids : t.ids ≡ map (λ r. r.0) told ++ x.waits
-  pub means : (later : List Work) (rest : List Entry) → replies shared had (t.asks ++ later) new_session (t.used ++ rest) ≡ map (λ r. r.1) told ++ replies shared had (x.task.asks ++ later) x.task.session rest
+  pub means : (later : List Work) (rest : List Entry) → meant shared had t.before t.start (t.asks ++ later) (t.used ++ rest) ≡ map (λ r. r.1) told ++ replies shared had (x.task.asks ++ later) x.task.session rest
 
 -- The messages told replies to the first of the accepted requests, by their ids in order, and these are what they mean.
 pub record HasTold (shared : Bool) (had : ℕ → ℕ) (t : Story) : Type 0 where
@@ -117,7 +154,7 @@ pub record HasTold (shared : Bool) (had : ℕ → ℕ) (t : Story) : Type 0 wher
   pub texts : t.texts ≡ map answer_text told
   pub others : List ℤ
   pub ids : t.ids ≡ map (λ r. r.0) told ++ others
-  pub means : (later : List Work) (rest : List Entry) → (more : List Reply) × (replies shared had (t.asks ++ later) new_session (t.used ++ rest) ≡ map (λ r. r.1) told ++ more)
+  pub means : (later : List Work) (rest : List Entry) → (more : List Reply) × (meant shared had t.before t.start (t.asks ++ later) (t.used ++ rest) ≡ map (λ r. r.1) told ++ more)
 
 -- its connection isn't closing
 pub record IsHeard (s : State) (x : Stream) : Type 0 where

@@ -68,7 +68,7 @@ impl Hub {
     {
         let number = self.opened + 1;
         self.turns.reserve_stream(StreamNo(number))?;
-        let slot = Slot::new(self.alloc, conn, number)?;
+        let slot = Slot::new(self.alloc, self.moment, conn, number)?;
         add_slot(&mut self.slots, number, slot)?;
         if self.conns.join(conn, id, number).is_err() {
             drop_slot(&mut self.slots, number);

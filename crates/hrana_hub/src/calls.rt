@@ -34,6 +34,7 @@ impl Hub {
             Event::Text { conn, .. } => self.may_send(*conn),
             Event::Binary { conn } => self.may_send(*conn),
             Event::Lost { .. } => true,
+            Event::Moment { .. } => true,
             Event::Poll { .. } => true,
             Event::Stop => true,
         }

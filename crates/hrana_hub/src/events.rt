@@ -11,6 +11,8 @@ pub enum Event {
     Binary { conn: u32 },
     /// The connection is gone.
     Lost { conn: u32 },
+    /// So many milliseconds have passed since some beginning.
+    Moment { at: u64 },
     /// The stream may run one statement.
     Poll { stream: StreamNo },
     /// The run ends.

@@ -28,6 +28,8 @@ pub struct Hub {
     pub(crate) slots: BTreeMap<u64, Slot>,
     pub(crate) opened: u64,
     pub(crate) events: u64,
+    /// The greatest moment so far.
+    pub(crate) moment: u64,
     pub(crate) stopped: bool,
     pub(crate) turns: TxnTable,
     pub(crate) entries: Entries,
@@ -42,7 +44,7 @@ impl Model for Hub {
 
     ghost coded = { Prim.hlevel (codes, conditions.the_row.coded) };
 
-    ghost view = { λ h. record { token = h.token; state = record { conns = h.conns; streams = h.slots.entries; opened = h.opened; next = h.entries.next; version = h.turns.version; events = h.events; stopped = h.stopped }; turns = h.turns; noted = h.entries } };
+    ghost view = { λ h. record { token = h.token; state = record { conns = h.conns; streams = h.slots.entries; opened = h.opened; next = h.entries.next; version = h.turns.version; events = h.events; now = h.moment; stopped = h.stopped }; turns = h.turns; noted = h.entries } };
 }
 
 impl Hub {
@@ -57,6 +59,7 @@ impl Hub {
             slots: BTreeMap::new(alloc),
             opened: 0,
             events: 0,
+            moment: 0,
             stopped: false,
             turns: TxnTable::new(alloc)?,
             entries: Entries::new(alloc)?,

@@ -11,6 +11,7 @@ mod events;
 mod hub;
 mod laws;
 mod limits;
+mod moments;
 mod outs;
 mod polls;
 mod slot;
@@ -24,6 +25,6 @@ pub use events::Event;
 pub use hub::Hub;
 pub use laws::{limits_hold, replies_follow_requests, the_dead_add_nothing};
 pub use limits::{
-    MAX_CONNECTIONS, MAX_EVENTS, MAX_OUTSTANDING, MAX_STORED_BYTES, MAX_STORED_TEXTS, MAX_STREAMS,
+    EXPIRY_MS, MAX_CONNECTIONS, MAX_EVENTS, MAX_OUTSTANDING, MAX_STORED_BYTES, MAX_STORED_TEXTS, MAX_STREAMS,
     limits_are,
 };

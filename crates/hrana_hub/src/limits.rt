@@ -16,6 +16,9 @@ pub const MAX_STORED_TEXTS: usize = 32;
 /// The most bytes of the texts that a connection stores, together.
 pub const MAX_STORED_BYTES: usize = 262144;
 
+/// After how many milliseconds since its last answer a stream expires that holds a transaction and has nothing to do.
+pub const EXPIRY_MS: u64 = 10000;
+
 /// The most events of a run.
 pub const MAX_EVENTS: u64 = 4611686018427387903;
 
@@ -26,5 +29,6 @@ pub fn limits_are()
     ensures max_outstanding { MAX_OUTSTANDING ≡ 32 }
     ensures max_stored_texts { MAX_STORED_TEXTS ≡ 32 }
     ensures max_stored_bytes { MAX_STORED_BYTES ≡ 262144 }
+    ensures expiry { EXPIRY_MS ≡ 10000 }
     ensures max_events { MAX_EVENTS ≡ 2 ^ 62 - 1 }
 {}

@@ -73,11 +73,12 @@ impl Hub {
     fn pass_first(&mut self, stream: u64) -> bool
         ensures over { (x : Stream) → at stream self.old.state.streams ≡ Some x → result ≡ is_closed x.task.session.state }
         ensures hub { (x : Stream) → at stream self.old.state.streams ≡ Some x
-            → self.new ≡ with_state (with_streams (put stream (passed x) self.old.state.streams) self.old.state) self.old }
+            → self.new ≡ with_state (with_streams (put stream (passed self.old.state.now x) self.old.state.streams) self.old.state) self.old }
     {
+        let now = self.moment;
         match self.slots.get_mut(&stream) {
             Some(slot) => {
-                slot.answered();
+                slot.answered(now);
                 slot.is_closed()
             }
             None => false,

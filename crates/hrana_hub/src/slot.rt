@@ -7,9 +7,12 @@ ghost use Rattle.stream_task.specs.Polls.{is_waiting};
 ghost use Rattle.stream_task.specs.Together.{MayPoll, HasPolled, HasEnded};
 ghost use Rattle.hrana_hub.specs.Arrivals.{fresh, waiting};
 ghost use Rattle.hrana_hub.specs.Maps.{at, put, placed, without};
-ghost use Rattle.hrana_hub.specs.Polled.{first_id, later_ids, dropped, is_closed};
+ghost use Rattle.hrana_hub.specs.Moments.{is_begun, is_due, expired};
+ghost use Rattle.hrana_hub.specs.Polled.{first_id, dropped, is_closed};
+ghost use Rattle.hrana_hub.specs.Settled.{passed, with_task};
 ghost use Rattle.hrana_hub.specs.State.{Stream};
 
+use crate::limits::EXPIRY_MS;
 use engine_core::{Engine, Entries, Undo};
 use hrana_value::{NoMemory, StreamNo};
 use std::alloc::Global;
@@ -24,6 +27,8 @@ use txn_table::TxnTable;
 pub(crate) struct Slot {
     conn: u32,
     waits: VecDeque<i32>,
+    /// The moment of its last answer, at first that of its opening.
+    last_answer: u64,
     task: StreamTask,
 }
 
@@ -36,7 +41,7 @@ impl Model for Slot {
 
     ghost coded = { Prim.hlevel (codes, conditions.the_row.coded) };
 
-    ghost view = { λ x. record { conn = x.conn; waits = x.waits.items; task = x.task } };
+    ghost view = { λ x. record { conn = x.conn; waits = x.waits.items; last_answer = x.last_answer; task = x.task } };
 }
 
 /// One more stream. Where there is no memory nothing changes.
@@ -78,6 +83,18 @@ pub(crate) fn ask_slot(
     }
 }
 
+/// Whether a transaction was begun and is neither ended nor lost.
+fn is_begun(state: TxnState) -> bool
+    ensures { result ≡ is_begun state }
+{
+    match state {
+        TxnState::Deferred => true,
+        TxnState::Reading { .. } => true,
+        TxnState::Writing { .. } => true,
+        _ => false,
+    }
+}
+
 fn is_closed(state: TxnState) -> bool
     ensures { result ≡ is_closed state }
 {
@@ -88,13 +105,14 @@ fn is_closed(state: TxnState) -> bool
 }
 
 impl Slot {
-    /// A stream of this connection that was asked nothing.
-    pub(crate) fn new(alloc: Global, conn: u32, stream: u64) -> Result<Slot, NoMemory>
-        ensures { IfOk result (λ slot. slot ≡ fresh conn stream) }
+    /// A stream of this connection that opens now and was asked nothing.
+    pub(crate) fn new(alloc: Global, now: u64, conn: u32, stream: u64) -> Result<Slot, NoMemory>
+        ensures { IfOk result (λ slot. slot ≡ fresh now conn stream) }
     {
         Ok(Slot {
             conn,
             waits: VecDeque::new(alloc),
+            last_answer: now,
             task: StreamTask::new(alloc, StreamNo(stream), false)?,
         })
     }
@@ -140,10 +158,11 @@ impl Slot {
         }
     }
 
-    /// The first request was answered.
-    pub(crate) fn answered(&mut self)
-        ensures { self.new ≡ record { conn = self.old.conn; waits = later_ids self.old.waits; task = self.old.task } }
+    /// The first request is answered now.
+    pub(crate) fn answered(&mut self, now: u64)
+        ensures { self.new ≡ passed now self.old }
     {
+        self.last_answer = now;
         let _answered = self.waits.pop_front();
     }
 
@@ -158,7 +177,7 @@ impl Slot {
         requires room { 0 < entries.old.spare }
         requires few { (turns.old.version < 2 ^ 64 - 1) × (entries.old.next < 2 ^ 64 - 1) }
         ensures polled { HasPolled E.told E.SHARED E.meaning E.db E.live E.faults engine.old engine.new turns.old turns.new entries.old entries.new self.old.task self.new.task result }
-        ensures slot { self.new ≡ record { conn = self.old.conn; waits = self.old.waits; task = self.new.task } }
+        ensures slot { self.new ≡ with_task self.new.task self.old }
         ensures spare { entries.old.spare ≤ entries.new.spare + 1 }
         ensures later { E.faults engine.old ≤ E.faults engine.new }
     {
@@ -180,6 +199,32 @@ impl Slot {
         ensures later { E.faults engine.old ≤ E.faults engine.new }
     {
         self.task.end(engine, turns, entries, why);
+    }
+
+    /// Whether it holds a transaction, has nothing to do, and gave its last answer long enough ago to expire.
+    pub(crate) fn is_due(&self, now: u64) -> bool
+        ensures { result ≡ is_due now self.now }
+    {
+        is_begun(self.task.state())
+            && !self.task.ready()
+            && now.saturating_sub(self.last_answer) >= EXPIRY_MS
+    }
+
+    /// It expires: its open unit is taken back, and it is dead from now on.
+    pub(crate) fn expire<E: Engine>(
+        &mut self,
+        engine: &mut E,
+        turns: &mut TxnTable,
+        entries: &mut Entries,
+    )
+        requires may { MayPoll E.told E.SHARED (E.db engine.old) (E.live engine.old) turns.old entries.old.next self.old.task.stream self.old.task.session.state }
+        requires room { open_of self.old.task.session.state ≤ entries.old.spare }
+        ensures ended { HasEnded E.told E.SHARED E.meaning E.db E.live E.faults engine.old engine.new turns.old turns.new entries.old entries.new self.old.task Undo.Expired }
+        ensures slot { self.new ≡ expired self.old }
+        ensures spare { entries.new.spare + open_of self.old.task.session.state ≡ entries.old.spare }
+        ensures later { E.faults engine.old ≤ E.faults engine.new }
+    {
+        self.task.end(engine, turns, entries, Undo::Expired);
     }
 
     /// The requests that wait are dropped.

@@ -2,7 +2,7 @@
 ghost use Rattle.std.specs.Prelude.{◌≡◌, ◌<◌, ◌≤◌, ◌^◌, true};
 ghost use Rattle.hrana_hub.specs.Adds.{Adds};
 ghost use Rattle.hrana_hub.specs.Agrees.{HubAgrees, IsAhead};
-ghost use Rattle.hrana_hub.specs.Ended.{LossFrees};
+ghost use Rattle.hrana_hub.specs.Moments.{LossFrees};
 ghost use Rattle.hrana_hub.specs.State.{with_state};
 ghost use Rattle.hrana_hub.specs.Step.{Step, Comes, fits, may_come, counted};
 
@@ -39,13 +39,14 @@ impl Hub {
             Event::Text { conn, text } => self.text(conn, text.as_slice()),
             Event::Binary { conn } => self.binary(conn),
             Event::Lost { conn } => self.lose(engine, conn),
+            Event::Moment { at } => self.moment(engine, at),
             Event::Poll { stream } => self.poll(engine, stream),
             Event::Stop => self.stop(engine),
         }
     }
 
     /// One event: the entries that it adds, what it gives, and the state after it are by the rules of the hub. A step that finds
-    /// no memory closes its connection with 1011. `Binary`, `Lost` and `Stop` take none.
+    /// no memory closes its connection with 1011. `Binary`, `Lost`, `Moment` and `Stop` take none.
     pub fn step<E: Engine>(&mut self, engine: &mut E, event: Event) -> Outs
         requires fits { fits self.old.state event ≡ true }
         requires agrees { HubAgrees E.told E.SHARED (E.db engine.old) (E.live engine.old) self.old }

@@ -1,4 +1,5 @@
 use Rattle.std.proofs.Common.{false, [], sym, subst}
+use Rattle.hrana_hub.specs.Moments.{LossFrees}
 use Rattle.hrana_hub.specs.Step.{Comes, TextSteps}
 use Rattle.hrana_hub.proofs.ArrivalAgreeing.{text_agrees, binary_agrees, opened_agrees}
 use Rattle.hrana_hub.proofs.ArrivalAdding.{text_adds, binary_adds, opened_adds}
@@ -38,3 +39,6 @@ returns-in-Binary-clause-adds g c =
     let token = c.args.self.now.token in
     binary_adds c.args.engine.now c.args.self.now c.binary.new.self _ c.a_joined_stream_stands.ensures c.requires.agrees c.binary.ensures.rest
     (subst (λ e. Comes token g.E.Engine.SHARED s e [] c.binary.result new) (sym c.in-Binary.is) (binary_comes token g.E.Engine.SHARED s new c.in-Binary.conn c.binary.result c.binary.ensures.step)) c.in-Binary.conn c.binary.result c.binary.ensures.step
+
+pub returns-in-Moment-clause-freed : goal.returns-in-Moment-clause-freed
+returns-in-Moment-clause-freed g c = subst (λ e. LossFrees e c.args.self.now c.moment.new.self) (sym c.in-Moment.is) c.moment.ensures.freed

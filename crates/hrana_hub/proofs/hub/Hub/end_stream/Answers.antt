@@ -7,27 +7,33 @@ use Rattle.hrana_hub.specs.Ended.{end_of}
 use Rattle.hrana_hub.specs.contracts.hub.Hub.{the_view}
 use Rattle.hrana_hub.proofs.Adding.{alike, adds_none}
 use Rattle.hrana_hub.proofs.EntryLemmas.{without_unknown}
-use Rattle.hrana_hub.proofs.Ending.{EndDid, may_poll, end_room, end_adds, end_agrees, end_leaves}
+use Rattle.hrana_hub.proofs.Ending.{EndDid, let_go_of, may_poll, end_room, end_adds, end_agrees, end_leaves}
 use Rattle.hrana_hub.proofs.hub.Hub.end_stream.Given as given
 use Rattle.hrana_hub.proofs.hub.Hub.end_stream.Goals as goal
 
 abbrev after : (g : given.Over) → goal.After-end g → Seen
-after g c = the_view (record { alloc = c.self.inside.alloc; token = c.self.inside.token; conns = c.self.inside.conns; slots = c.remove.new.self; opened = c.self.inside.opened; events = c.self.inside.events; stopped = c.self.inside.stopped; turns = c.end.new.turns; entries = c.end.new.entries })
+after g c = the_view (record { alloc = c.self.inside.alloc; token = c.self.inside.token; conns = c.self.inside.conns; slots = c.remove.new.self; opened = c.self.inside.opened; events = c.self.inside.events; moment = c.self.inside.moment; stopped = c.self.inside.stopped; turns = c.end.new.turns; entries = c.end.new.entries })
 
-did : (g : given.Over) (c : goal.After-end g) → EndDid g.E.Engine.told g.E.Engine.SHARED g.E.Engine.meaning g.E.Engine.db g.E.Engine.live g.E.Engine.faults c.args.engine.now c.end.new.engine c.args.why c.args.stream c.in-Some.slot (the_view c.self.inside) (after g c)
-did g c = record {
-  agrees = subst (λ h. HubAgrees g.E.Engine.told g.E.Engine.SHARED (g.E.Engine.db c.args.engine.now) (g.E.Engine.live c.args.engine.now) h) (sym c.self.view_is) c.requires;
-  known = sym c.in-Some.ensures.value;
-  ended = c.end.ensures.ended;
-  spare = c.end.ensures.spare;
-  conns = refl;
-  streams = c.remove.ensures.entries;
-  opened = refl;
-  next = refl;
-  version = refl;
-  events = refl;
-  stopped = refl;
-}
+did : (g : given.Over) (c : goal.After-end g) → EndDid g.E.Engine.told g.E.Engine.SHARED g.E.Engine.meaning g.E.Engine.db g.E.Engine.live g.E.Engine.faults c.args.engine.now c.end.new.engine c.args.why c.args.stream c.in-Some.slot None (the_view c.self.inside) (after g c)
+did g c =
+    let agrees = subst (λ h. HubAgrees g.E.Engine.told g.E.Engine.SHARED (g.E.Engine.db c.args.engine.now) (g.E.Engine.live c.args.engine.now) h) (sym c.self.view_is) c.requires in
+    let known = sym c.in-Some.ensures.value in
+    let gone = let_go_of c.args.stream c.in-Some.slot (the_view c.self.inside).state (after g c).state agrees.numbers known (c.remove.ensures.entries) refl in
+    record {
+      agrees = agrees;
+      known = known;
+      ended = c.end.ensures.ended;
+      spare = c.end.ensures.spare;
+      shut = refl;
+      states = gone.states;
+      others = gone.others;
+      numbers = gone.numbers;
+      units = gone.units;
+      opened = refl;
+      next = refl;
+      version = refl;
+      events = refl;
+    }
 
 pub end-requires-clause-may : goal.end-requires-clause-may
 end-requires-clause-may g c = may_poll _ _ _ _ (the_view c.self.inside) c.args.stream c.in-Some.slot c.streams_agree.ensures.polls (subst (λ h. HubAgrees g.E.Engine.told g.E.Engine.SHARED (g.E.Engine.db c.args.engine.now) (g.E.Engine.live c.args.engine.now) h) (sym c.self.view_is) c.requires) (sym c.in-Some.ensures.value)
@@ -38,18 +44,18 @@ end-requires-clause-room g c = end_room g.E.Engine.told g.E.Engine.SHARED (g.E.E
 pub returns-in-Some-clause-adds : goal.returns-in-Some-clause-adds
 returns-in-Some-clause-adds g c =
     subst (λ h. Adds g.E.Engine.told g.E.Engine.SHARED g.E.Engine.meaning g.E.Engine.db g.E.Engine.live g.E.Engine.faults c.args.engine.now c.end.new.engine h (after g c) (λ added. added ≡ end_of c.args.why (at c.args.stream h.state.streams))) c.self.view_is
-    (end_adds g.E.Engine.told g.E.Engine.SHARED g.E.Engine.meaning g.E.Engine.db g.E.Engine.live g.E.Engine.faults c.args.engine.now c.end.new.engine c.args.why c.args.stream c.in-Some.slot (the_view c.self.inside) (after g c) (did g c) c.ends_lead_on.ensures)
+    (end_adds g.E.Engine.told g.E.Engine.SHARED g.E.Engine.meaning g.E.Engine.db g.E.Engine.live g.E.Engine.faults c.args.engine.now c.end.new.engine c.args.why c.args.stream c.in-Some.slot None (the_view c.self.inside) (after g c) (did g c) c.ends_lead_on.ensures)
 
 pub returns-in-Some-clause-agrees : goal.returns-in-Some-clause-agrees
-returns-in-Some-clause-agrees g c = end_agrees g.E.Engine.told g.E.Engine.SHARED g.E.Engine.meaning g.E.Engine.db g.E.Engine.live g.E.Engine.faults c.args.engine.now c.end.new.engine c.args.why c.args.stream c.in-Some.slot (the_view c.self.inside) (after g c) (did g c) c.ends_keep_agreement.ensures
+returns-in-Some-clause-agrees g c = end_agrees g.E.Engine.told g.E.Engine.SHARED g.E.Engine.meaning g.E.Engine.db g.E.Engine.live g.E.Engine.faults c.args.engine.now c.end.new.engine c.args.why c.args.stream c.in-Some.slot None (the_view c.self.inside) (after g c) (did g c) c.ends_keep_agreement.ensures
 
 pub returns-in-Some-clause-table : goal.returns-in-Some-clause-table
-returns-in-Some-clause-table g c = λ some. end_leaves g.E.Engine.told g.E.Engine.SHARED g.E.Engine.meaning g.E.Engine.db g.E.Engine.live g.E.Engine.faults c.args.engine.now c.end.new.engine c.args.why c.args.stream c.in-Some.slot (the_view c.self.inside) (after g c) (did g c) (returns-in-Some-clause-agrees g c)
+returns-in-Some-clause-table g c = λ some. end_leaves g.E.Engine.told g.E.Engine.SHARED g.E.Engine.meaning g.E.Engine.db g.E.Engine.live g.E.Engine.faults c.args.engine.now c.end.new.engine c.args.why c.args.stream c.in-Some.slot None (the_view c.self.inside) (after g c) (did g c) (returns-in-Some-clause-agrees g c)
 
 pub returns-in_default-clause-adds : goal.returns-in_default-clause-adds
 returns-in_default-clause-adds g c =
     let old = the_view c.self.inside in
-    let left : Seen = the_view (record { alloc = c.self.inside.alloc; token = c.self.inside.token; conns = c.self.inside.conns; slots = c.remove.new.self; opened = c.self.inside.opened; events = c.self.inside.events; stopped = c.self.inside.stopped; turns = c.self.inside.turns; entries = c.self.inside.entries }) in
+    let left : Seen = the_view (record { alloc = c.self.inside.alloc; token = c.self.inside.token; conns = c.self.inside.conns; slots = c.remove.new.self; opened = c.self.inside.opened; events = c.self.inside.events; moment = c.self.inside.moment; stopped = c.self.inside.stopped; turns = c.self.inside.turns; entries = c.self.inside.entries }) in
     let unknown : at c.args.stream old.state.streams ≡ None = sym c.in_default.ensures.value in
     let same = c.remove.ensures.entries ∙ without_unknown c.args.stream old.state.streams unknown in
     subst (λ h. Adds g.E.Engine.told g.E.Engine.SHARED g.E.Engine.meaning g.E.Engine.db g.E.Engine.live g.E.Engine.faults c.args.engine.now c.args.engine.now h left (λ added. added ≡ end_of c.args.why (at c.args.stream h.state.streams))) c.self.view_is

@@ -13,4 +13,4 @@ returns-then-is_err-clause-err c =
     let free = ap (λ (s : Seen). at (s.state.opened + 1) s.state.streams) c.self.view_is ∙ c.requires.fresh in
     let streams : c.drop_slot.new.slots.entries ≡ h.slots.entries =
     c.drop_slot.ensures ∙ (ap (λ (es : Numbered Stream). without n es) c.in_ok-add_slot.ensures.ok ∙ without_placed n c.in_ok-slot.slot h.slots.entries free) in
-    only_place h.token h.conns c.join.new.self h.slots.entries c.drop_slot.new.slots.entries h.opened h.events h.stopped h.turns c.reserve_stream.new.self h.entries c.args.self.now c.self.view_is conns streams c.in_ok-reserve_stream.ensures.ok
+    only_place h.token h.conns c.join.new.self h.slots.entries c.drop_slot.new.slots.entries h.opened h.events h.moment h.stopped h.turns c.reserve_stream.new.self h.entries c.args.self.now c.self.view_is conns streams c.in_ok-reserve_stream.ensures.ok
