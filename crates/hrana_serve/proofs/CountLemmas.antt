@@ -16,10 +16,11 @@ use Rattle.http_wire.specs.declared.limits.TheConstants.{MAX_BODY_BYTES}
 use Rattle.http_wire.specs.declared.outs.Outs.{Outs}
 use Rattle.engine_core.specs.declared.entries.Entry.{Entry}
 use Rattle.hrana_hub.specs.declared.events.Event.{Event}
-use Rattle.hrana_hub.specs.declared.events.Event.TheVariants.{Opened, Text, Binary, Lost, Poll, Stop}
+use Rattle.hrana_hub.specs.declared.events.Event.TheVariants.{Opened, Text, Binary, Lost, Moment, Poll, Stop}
 use Rattle.hrana_hub.specs.declared.limits.TheConstants.{MAX_STREAMS}
 use Rattle.hrana_hub.specs.Arrivals.{Went, quiet, closing, accepts, on_hello, opens_unless, opens, asks, asks_at, queues, unopened, is_full, stores_unless, stores, on_request, on_numbered, on_answer, nothing}
 use Rattle.hrana_hub.specs.Maps.{at, id_at}
+use Rattle.hrana_hub.specs.Moments.{expiries, at_moment}
 use Rattle.hrana_hub.specs.Run.{Run, start, more}
 use Rattle.hrana_hub.specs.State.{Conn, Stream, State}
 use Rattle.hrana_hub.specs.Step.{Goes, ReadText, OpenText, Heard, PolledAt, LostAt, Happens, TextFell, PollFellOn, PollFellAt, Falls, is_short, counted, Step}
@@ -131,6 +132,7 @@ module _ (token : Option (List ℕ)) (shared : Bool) (s new : State) (added : Li
   happened (Binary c) on h = heard (at c s.conns) _ (λ k g. left_as _ (record { events = refl; stopped = refl }) g.left) h
   happened (Poll stream) on h = polled stream.0 (at stream.0 s.streams) h
   happened (Lost c) on h = lost c (at c s.conns) h
+  happened (Moment moment) on h = either (nat_lt moment s.now) (λ (g : Goes (quiet s) added out new). left_as s same g.left) (λ (g : (added ≡ expiries moment s.streams) × (out ≡ nothing) × (new ≡ at_moment moment s)). left_as _ (record { events = refl; stopped = refl }) g.2) h
   happened Stop on h = absurd on
 
   text_fell : (c : ℕ) (o : Option Conn) (text : List ℕ) → TextFell s c o text added out new → SameCount s new
@@ -161,6 +163,7 @@ line_goes_on line (Opened c) h = tt
 line_goes_on line (Text c text) h = tt
 line_goes_on line (Binary c) h = tt
 line_goes_on line (Lost c) h = tt
+line_goes_on line (Moment moment) h = tt
 line_goes_on line (Poll stream) h = tt
 line_goes_on line Stop h = absurd h.written
 

@@ -1,5 +1,5 @@
 -- What a line is, and that it stands for one event at most.
-use Rattle.std.proofs.Common.{◌≡◌, ℕ, zero, suc, Some, None, length, take, get_or, length-append, List, [], ◌∷◌, ◌++◌, Bool, true, false, cond, ◌∙◌, ap, sym, refl, ◌<◌, ◌^◌, Ok, Err, Result, ◌==◌, subst, arith}
+use Rattle.std.proofs.Common.{◌≡◌, ℕ, zero, suc, Some, None, length, take, get_or, length-append, List, [], ◌∷◌, ◌++◌, Bool, true, false, cond, ◌∙◌, ap, sym, refl, ◌<◌, ◌^◌, Ok, Err, Result, ◌==◌, ◌||◌, subst, arith}
 use Rattle.std.specs.Fmt.{decimal}
 use Rattle.std.proofs.lemmas.Fmt.{parse-decimal, decimal_injective, decimal_is_IsNumeral}
 use Rattle.std.specs.Str.Parse.{ParsesUnsigned, AllDigits}
@@ -9,7 +9,7 @@ use Rattle.std.proofs.Math.Seq.{get_or-append_seam, take-append_seam}
 use Rattle.std.proofs.lemmas.Bool.Decides.{Decides-eqb}
 use Rattle.memchr.specs.Find.{IsFirstByte, is_byte}
 use Rattle.hrana_hub.specs.declared.events.Event.{Event}
-use Rattle.hrana_hub.specs.declared.events.Event.TheVariants.{Opened, Text, Binary, Lost, Poll, Stop}
+use Rattle.hrana_hub.specs.declared.events.Event.TheVariants.{Opened, Text, Binary, Lost, Moment, Poll, Stop}
 use Rattle.hrana_hub.specs.State.{State}
 use Rattle.hrana_hub.specs.Step.{fits}
 use Rattle.hrana_serve.specs.Script.{IsLineOf, IsBadLine, OneEventALine}
@@ -75,10 +75,10 @@ abbrev words : Bool → ℕ → List ℕ → List ℕ
 words texts number text = cond texts (decimal number ++ 32 ∷ text) (decimal number)
 
 abbrev made : Bool → ℕ → ℕ → List ℕ → Event
-made texts mark number text = cond (mark == 43) (Opened number) (cond texts (Text number text) (cond (mark == 35) (Binary number) (cond (mark == 45) (Lost number) (Poll (record { 0 = number })))))
+made texts mark number text = cond (mark == 43) (Opened number) (cond texts (Text number text) (cond (mark == 35) (Binary number) (cond (mark == 45) (Lost number) (cond (mark == 64) (Moment number) (Poll (record { 0 = number }))))))
 
 abbrev bound : ℕ → ℕ
-bound mark = cond (mark == 33) (2 ^ 64) (2 ^ 32)
+bound mark = cond (mark == 33 || mark == 64) (2 ^ 64) (2 ^ 32)
 
 pub record IsMade (line : List ℕ) (event : Event) : Type 0 where
   pub mark : ℕ
@@ -93,6 +93,7 @@ made_of line (Opened c) p = record { mark = 43; number = c; text = []; is_made =
 made_of line (Text c t) p = record { mark = 62; number = c; text = t; is_made = refl; written = p.written; few = p.numbers }
 made_of line (Binary c) p = record { mark = 35; number = c; text = []; is_made = refl; written = p.written; few = p.numbers }
 made_of line (Lost c) p = record { mark = 45; number = c; text = []; is_made = refl; written = p.written; few = p.numbers }
+made_of line (Moment m) p = record { mark = 64; number = m; text = []; is_made = refl; written = p.written; few = p.numbers }
 made_of line (Poll n) p = record { mark = 33; number = n.0; text = []; is_made = refl; written = p.written; few = p.numbers }
 made_of line Stop p = absurd p.written
 
@@ -110,7 +111,7 @@ words_one false mark n k t u p q e = ap (λ x. made false mark x t) (decimal_inj
 made_one : (line : List ℕ) (e f : Event) (a : IsMade line e) (b : IsMade line f) → a.mark ≡ b.mark → words (is_text a.mark) a.number a.text ≡ words (is_text b.mark) b.number b.text → e ≡ f
 made_one line e f a b marks said =
     a.is_made
-    ∙ words_one (is_text a.mark) a.mark a.number b.number a.text b.text (wide_if (a.mark == 33) a.number a.few) (wide_if (b.mark == 33) b.number b.few) (said ∙ ap (λ m. words (is_text m) b.number b.text) (sym marks))
+    ∙ words_one (is_text a.mark) a.mark a.number b.number a.text b.text (wide_if (a.mark == 33 || a.mark == 64) a.number a.few) (wide_if (b.mark == 33 || b.mark == 64) b.number b.few) (said ∙ ap (λ m. words (is_text m) b.number b.text) (sym marks))
     ∙ ap (λ m. made (is_text m) m b.number b.text) marks
     ∙ sym b.is_made
 

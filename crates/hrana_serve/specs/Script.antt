@@ -1,7 +1,7 @@
 -- The lines of a script and the events that they stand for.
 use Rattle.std.specs.Prelude.{◌≡◌, ◌<◌, ◌^◌, List, ℕ, [], ◌∷◌, ◌++◌, true, codes, decimal}
 use Rattle.hrana_hub.specs.declared.events.Event.{Event}
-use Rattle.hrana_hub.specs.declared.events.Event.TheVariants.{Opened, Text, Binary, Lost, Poll, Stop}
+use Rattle.hrana_hub.specs.declared.events.Event.TheVariants.{Opened, Text, Binary, Lost, Moment, Poll, Stop}
 use Rattle.hrana_hub.specs.State.{State}
 use Rattle.hrana_hub.specs.Step.{fits}
 
@@ -11,6 +11,7 @@ IsWritten line (Opened conn) = line ≡ codes "+ " ++ decimal conn
 IsWritten line (Text conn text) = line ≡ codes "> " ++ (decimal conn ++ 32 ∷ text)
 IsWritten line (Binary conn) = line ≡ codes "# " ++ decimal conn
 IsWritten line (Lost conn) = line ≡ codes "- " ++ decimal conn
+IsWritten line (Moment moment) = line ≡ codes "@ " ++ decimal moment
 IsWritten line (Poll stream) = line ≡ codes "! " ++ decimal stream.0
 IsWritten line Stop = ⊥
 
@@ -20,6 +21,7 @@ HasNumbers (Opened conn) = conn < 2 ^ 32
 HasNumbers (Text conn text) = conn < 2 ^ 32
 HasNumbers (Binary conn) = conn < 2 ^ 32
 HasNumbers (Lost conn) = conn < 2 ^ 32
+HasNumbers (Moment moment) = moment < 2 ^ 64
 HasNumbers (Poll stream) = stream.0 < 2 ^ 64
 HasNumbers Stop = Unit {0}
 

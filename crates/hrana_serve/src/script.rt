@@ -71,12 +71,16 @@ fn text_of(alloc: Global, bytes: &[u8]) -> Result<(u32, Bytes), LineFail>
     }
 }
 
-/// The event of a line: `+ C`, `> C TEXT`, `# C`, `! N` or `- C`.
+/// The event of a line: `@ T`, `+ C`, `> C TEXT`, `# C`, `! N` or `- C`.
 pub fn event_of_line(alloc: Global, line: &[u8]) -> Result<Event, LineFail>
     ensures ok { IfOk result (λ event. IsLineOf line.now event) }
     ensures none { IfErr result (λ err. err ≡ LineFail.NoEvent → (event : Event) → IsLineOf line.now event → ⊥) }
 {
     match line {
+        [b'@', b' ', digits @ ..] => {
+            let at = number_of(alloc, digits)?;
+            Ok(Event::Moment { at })
+        }
         [b'+', b' ', digits @ ..] => {
             let conn = conn_of(alloc, digits)?;
             Ok(Event::Opened { conn })
