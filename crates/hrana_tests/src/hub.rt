@@ -139,7 +139,7 @@ const ARRIVALS: [(&str, &str, &str); 24] = [
 
 /// A script, what is to come of it, and the number of its events.
 #[derive(Drop)]
-struct Scene {
+pub struct Scene {
     alloc: Global,
     script: String,
     out: String,
@@ -148,7 +148,7 @@ struct Scene {
 
 impl Scene {
     /// Connection 1 is open and was welcomed.
-    fn new(alloc: Global) -> Result<Scene, NoMemory> {
+    pub fn new(alloc: Global) -> Result<Scene, NoMemory> {
         Ok(Scene {
             alloc,
             script: format!(in alloc; "+ 1\n{HELLO}")?,
@@ -158,7 +158,7 @@ impl Scene {
     }
 
     /// One more line, and what it gives.
-    fn line(&mut self, line: &str, out: &str) -> Result<(), NoMemory> {
+    pub fn line(&mut self, line: &str, out: &str) -> Result<(), NoMemory> {
         self.script.push_str(line)?;
         self.out.push_str(out)?;
         self.events = self.events.saturating_add(1);
@@ -166,7 +166,7 @@ impl Scene {
     }
 
     /// A request that is answered at its arrival.
-    fn ask(
+    pub fn ask(
         &mut self,
         conn: u32,
         id: usize,
@@ -180,7 +180,7 @@ impl Scene {
     }
 
     /// A statement that waits on a stream of its connection.
-    fn waits(&mut self, conn: u32, id: usize, stream: i32, sql: &str) -> Result<(), NoMemory> {
+    pub fn waits(&mut self, conn: u32, id: usize, stream: i32, sql: &str) -> Result<(), NoMemory> {
         let request = format!(in self.alloc;
             "{{\"type\":\"execute\",\"stream_id\":{stream},\"stmt\":{{\"sql\":\"{sql}\"}}}}"
         )?;
@@ -189,7 +189,7 @@ impl Scene {
     }
 
     /// A poll, and the code and text of the answer that it gives, if any.
-    fn poll(
+    pub fn poll(
         &mut self,
         stream: u64,
         conn: u32,
@@ -203,7 +203,7 @@ impl Scene {
     }
 
     /// A statement of a stream that is polled at once.
-    fn runs(
+    pub fn runs(
         &mut self,
         conn: u32,
         id: usize,
@@ -227,7 +227,7 @@ impl Scene {
     }
 
     /// Plays the script over a keeper in memory.
-    fn compare(&self, rt: &impl Abort, status: Status, noted: usize) -> Result<(), Fail> {
+    pub fn compare(&self, rt: &impl Abort, status: Status, noted: usize) -> Result<(), Fail> {
         compare(
             rt,
             self.alloc,
@@ -378,16 +378,16 @@ fn connections_are_closed(rt: HostRuntime) -> Result<(), Fail> {
     Ok(())
 }
 
-const OPENED: &str = "{\"type\":\"open_stream\"}";
+pub const OPENED: &str = "{\"type\":\"open_stream\"}";
 
-const EMPTY: &str =
+pub const EMPTY: &str =
     "{\"result\":{\"affected_row_count\":0,\"cols\":[],\"last_insert_rowid\":null,\"rows\":[]},\"type\":\"execute\"}";
 
-const ONE: &str =
+pub const ONE: &str =
     "{\"result\":{\"affected_row_count\":1,\"cols\":[],\"last_insert_rowid\":\"1\",\"rows\":[]},\"type\":\"execute\"}";
 
 /// Two connections with a stream each, and a table.
-fn two_connections(alloc: Global) -> Result<Scene, NoMemory> {
+pub fn two_connections(alloc: Global) -> Result<Scene, NoMemory> {
     let mut scene = Scene::new(alloc)?;
     scene.ask(
         1,

@@ -14,6 +14,8 @@ mod journal;
 #[cfg(test)]
 mod keeper;
 #[cfg(test)]
+mod moments;
+#[cfg(test)]
 mod outside;
 #[cfg(test)]
 mod played;

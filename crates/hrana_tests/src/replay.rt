@@ -90,7 +90,13 @@ fn events_are_answered(rt: HostRuntime) -> Result<(), Fail> {
         ("\nhello", Status::BadScript { line: 9 }, 7),
         ("! 01\n", Status::BadScript { line: 8 }, 7),
         ("-  1\n", Status::BadScript { line: 8 }, 7),
-        ("@ 5\n", Status::BadScript { line: 8 }, 7),
+        ("@\n", Status::BadScript { line: 8 }, 7),
+        ("@ 05\n", Status::BadScript { line: 8 }, 7),
+        (
+            "@ 18446744073709551616\n",
+            Status::BadScript { line: 8 },
+            7,
+        ),
         ("? 1 GET /v3 -\n", Status::BadScript { line: 8 }, 7),
     ] {
         let wanted = Wanted {
