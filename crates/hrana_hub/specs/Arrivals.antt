@@ -4,7 +4,6 @@ use Rattle.std.specs.Prelude.{bytes_eq}
 use Rattle.serde_json.specs.Written.{compact_text}
 use Rattle.hrana_value.specs.declared.failures.NoMemory.{NoMemory}
 use Rattle.hrana_value.specs.declared.failures.Decline.{Decline}
-use Rattle.hrana_value.specs.declared.failures.Decline.TheVariants as decline
 use Rattle.hrana_stmt.specs.Codes.{error_of}
 use Rattle.hrana_stmt.specs.declared.codes.Code.{Code}
 use Rattle.hrana_stmt.specs.declared.codes.Code.TheVariants as code
@@ -21,6 +20,7 @@ use Rattle.ws_messages.specs.declared.messages.ServerMsg.{ServerMsg}
 use Rattle.ws_messages.specs.declared.messages.ServerMsg.TheVariants as server
 use Rattle.ws_messages.specs.declared.messages.WsRequest.{WsRequest}
 use Rattle.ws_messages.specs.declared.messages.WsRequest.TheVariants as request
+use Rattle.pipeline_body.specs.Exchanges.{code_of_decline}
 use Rattle.http_wire.specs.declared.outs.Outs.{Outs}
 use Rattle.http_wire.specs.declared.outs.Out.{Out}
 use Rattle.http_wire.specs.declared.outs.Out.TheVariants.{Message}
@@ -48,14 +48,6 @@ tells c message = record { conn = c; out = Some (Message (text_of message)); clo
 
 abbrev pub refusal : ℤ → Code → ServerMsg
 refusal id why = server.Error id (error_of why)
-
--- the code with which a request is answered that is declined
-abbrev pub code_of_decline : Decline → Code
-code_of_decline decline.Unknown = code.UnknownRequest
-code_of_decline decline.Describe = code.DescribeUnsupported
-code_of_decline decline.BadStep = code.BadStep
-code_of_decline decline.Float = code.FloatUnsupported
-code_of_decline other = code.BadRequest
 
 pub record Went : Type 0 where
   pub given : Outs

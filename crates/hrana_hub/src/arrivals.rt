@@ -13,12 +13,13 @@ ghost use Rattle.hrana_hub.specs.declared.limits.TheConstants.{MAX_OUTSTANDING, 
 ghost use Rattle.stream_task.specs.Checks.{stored_text};
 
 use crate::hub::Hub;
-use crate::outs::{answers, code_of_decline, not_welcome, nothing, refuses, welcomes};
+use crate::outs::{answers, not_welcome, nothing, refuses, welcomes};
 use crate::slot::{Slot, add_slot, ask_slot, drop_slot};
 use crate::texts::put_ask;
 use hrana_stmt::Code;
 use hrana_value::{Decline, NoMemory, StreamNo, Txt};
 use http_wire::{MAX_BODY_BYTES, Out, Outs};
+use pipeline_body::code_of_decline;
 use stream_requests::{Ask, Reply};
 use stream_task::stored_text;
 use ws_messages::{ClientMsg, MsgFail, WsRequest, decode_client, fitting_client_messages_are_read};

@@ -2,10 +2,10 @@
 ghost use Rattle.std.specs.Prelude.{◌≡◌, IfOk, Some, None};
 ghost use Rattle.hrana_stmt.specs.Codes.{error_of};
 ghost use Rattle.ws_messages.specs.Server.{HasServerForm, answering};
-ghost use Rattle.hrana_hub.specs.Arrivals.{nothing, text_of, tells, refusal, code_of_decline};
+ghost use Rattle.hrana_hub.specs.Arrivals.{nothing, text_of, tells, refusal};
 
 use hrana_stmt::{Code, wire_error};
-use hrana_value::{Decline, NoMemory};
+use hrana_value::NoMemory;
 use http_wire::{Out, Outs};
 use std::alloc::Global;
 use stream_requests::Reply;
@@ -73,19 +73,4 @@ pub(crate) fn refuses(
 {
     let error = wire_error(alloc, code)?;
     tells(alloc, conn, &ServerMsg::Error { request_id, error })
-}
-
-/// The code with which a request is answered that is declined.
-pub(crate) fn code_of_decline(decline: Decline) -> Code
-    ensures { result ≡ code_of_decline decline }
-{
-    match decline {
-        Decline::Unknown => Code::UnknownRequest,
-        Decline::Describe => Code::DescribeUnsupported,
-        Decline::BadStep => Code::BadStep,
-        Decline::Float => Code::FloatUnsupported,
-        Decline::Shape => Code::BadRequest,
-        Decline::BothSql => Code::BadRequest,
-        Decline::Range => Code::BadRequest,
-    }
 }

@@ -6,6 +6,8 @@
 #[cfg(test)]
 mod batches;
 #[cfg(test)]
+mod exchanges;
+#[cfg(test)]
 mod messages;
 #[cfg(test)]
 mod pipelines;

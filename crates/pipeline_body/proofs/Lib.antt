@@ -11,3 +11,4 @@ pub mod AnswerLemmas
 pub mod BodyLemmas
 pub mod RequestLemmas
 pub mod WrittenLemmas
+pub mod ExchangeLemmas

@@ -3,3 +3,4 @@ pub mod Bodies
 pub mod Failures
 pub mod Requests
 pub mod Written
+pub mod Exchanges

@@ -1,12 +1,14 @@
-//! Bodies and answers of pipelines: from the bytes of an HTTP body and back (HRANA_3_SPEC, "Hrana over HTTP").
+//! Bodies and answers of pipelines: from the bytes of an HTTP body and back, and one exchange (HRANA_3_SPEC, "Hrana over HTTP").
 #![tactic(auto)]
 
 mod answers;
 mod bodies;
+mod exchange;
 mod forms;
 mod limits;
 mod pipelines;
 mod request_json;
+mod routes;
 mod sending;
 
 pub use answers::{
@@ -14,8 +16,12 @@ pub use answers::{
     no_tree_is_two_pipeline_answers, pipeline_answers_are_read,
 };
 pub use bodies::{BodyFail, PipeAsk, PipeAsks, PipelineAnswer, PipelineBody, Replies};
+pub use exchange::{
+    Asked, Begun, Exchange, code_of_decline, each_request_has_its_result, read_ask,
+};
 pub use limits::{MAX_PIPELINE_ASKS, limits_are};
 pub use pipelines::{
     decode_pipeline, encode_pipeline, fitting_asks_are_taken, no_bytes_have_two_body_readings,
     no_tree_is_two_pipeline_bodies,
 };
+pub use routes::{Route, empty_answer, error_answer, route_answer};
