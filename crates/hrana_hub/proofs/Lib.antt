@@ -20,3 +20,4 @@ pub mod Answered
 pub mod Paired
 pub mod Telling
 pub mod Following
+pub mod Versions
