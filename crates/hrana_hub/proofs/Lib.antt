@@ -21,3 +21,7 @@ pub mod Answered
 pub mod Paired
 pub mod Telling
 pub mod Following
+pub mod Versions
+pub mod IdLists
+pub mod WaitSums
+pub mod Counted

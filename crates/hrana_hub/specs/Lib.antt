@@ -13,4 +13,5 @@ pub mod Calls
 pub mod Lending
 pub mod Run
 pub mod Stories
+pub mod Versions
 pub mod Laws

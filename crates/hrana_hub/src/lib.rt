@@ -23,7 +23,10 @@ pub use agreement::{
 };
 pub use events::Event;
 pub use hub::Hub;
-pub use laws::{limits_hold, replies_follow_requests, the_dead_add_nothing};
+pub use laws::{
+    limits_hold, replies_follow_requests, runs_have_versions, the_dead_add_nothing,
+    waiting_requests_are_counted,
+};
 pub use limits::{
     EXPIRY_MS, MAX_CONNECTIONS, MAX_EVENTS, MAX_OUTSTANDING, MAX_STORED_BYTES, MAX_STORED_TEXTS, MAX_STREAMS,
     limits_are,

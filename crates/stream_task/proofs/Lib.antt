@@ -7,6 +7,8 @@
 --   the laws of together.rt                   together/, by TogetherLemmas over GoesLemmas
 --   the laws of leads.rt                      leads/, by LeadsLaws over MachineLemmas (a state of the machine) and LeadsLemmas (each entry)
 --   batches_are_meant                         laws/, by BatchLemmas
+--   streams_are_closed_by_closes              laws/, by CloseLemmas
+--   begun_units_are_next                      laws/, by BegunLemmas
 --   poll_running, advance                     advance/, by AdvanceLemmas over TodoLemmas
 --   StreamTask::end: waits                    task/StreamTask/end, by EndLemmas
 --   run_row                                   statement/run_row, by RowLemmas
@@ -35,3 +37,5 @@ pub mod TogetherLemmas
 pub mod MachineLemmas
 pub mod LeadsLemmas
 pub mod LeadsLaws
+pub mod CloseLemmas
+pub mod BegunLemmas

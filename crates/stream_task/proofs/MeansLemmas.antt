@@ -116,7 +116,7 @@ keeps_row had want_rows s (row.Commit unit) e o f = keeps_ended s e
 keeps_row had want_rows s (row.EndRead unit) e o f = keeps_ended s e
 keeps_row had want_rows s (row.Undo unit) e o f = keeps_ended s e
 
-becomes_open : (shared : Bool) (s : TxnState) (c : Class) (u : TxnState) → plan shared s c ≡ Becomes u → is_shut u ≡ false
+pub becomes_open : (shared : Bool) (s : TxnState) (c : Class) (u : TxnState) → plan shared s c ≡ Becomes u → is_shut u ≡ false
 becomes_open shared Auto (class.Begin mode.Deferred) u p = let same : Deferred ≡ u = cc in ap is_shut (sym same)
 becomes_open shared Auto (class.Begin mode.Immediate) u p = absurd (cc)
 becomes_open true Auto class.Read u p = absurd (cc)

@@ -1,11 +1,12 @@
 -- The laws that join what polls do and what requests mean.
-use Rattle.std.specs.Prelude.{◌≡◌, ◌≢◌, ℕ, Bool, true, List, [], ◌∷◌, ◌++◌, length, Option, None, option_to_list}
+use Rattle.std.specs.Prelude.{◌≡◌, ◌≢◌, ℕ, Bool, true, false, List, [], ◌∷◌, ◌++◌, length, Option, Some, None, option_to_list}
 use Rattle.hrana_value.specs.declared.StreamNo.{StreamNo}
 use Rattle.hrana_batch.specs.Means.{BatchMeans}
 use Rattle.hrana_batch.specs.declared.batches.Batch.{Batch}
 use Rattle.stream_requests.specs.declared.replies.Reply.{Reply}
 use Rattle.stream_requests.specs.declared.replies.Reply.TheVariants as reply
 use Rattle.engine_core.specs.declared.entries.Entry.{Entry}
+use Rattle.engine_core.specs.declared.entries.Entry.TheVariants as entry
 use Rattle.stream_task.specs.Session.{is_shut}
 use Rattle.stream_task.specs.Table.{Seen, IsVersioned}
 use Rattle.stream_task.specs.Doing.{Session, in_state}
@@ -13,8 +14,10 @@ use Rattle.stream_task.specs.Means.{means, steps_mean, Meant, said, cut}
 use Rattle.stream_task.specs.Advance.{PollsWork}
 use Rattle.stream_task.specs.Polls.{Polls, Task}
 use Rattle.stream_task.specs.declared.session.TxnState.{TxnState}
+use Rattle.stream_task.specs.declared.session.TxnState.TheVariants.{Closed}
 use Rattle.stream_task.specs.declared.work.Kind.TheVariants as kind
 use Rattle.stream_task.specs.declared.work.Work.{Work}
+use Rattle.stream_task.specs.declared.work.Work.TheVariants as work
 use Rattle.stream_task.specs.declared.advance.Advanced.{Advanced}
 use Rattle.stream_task.specs.declared.advance.Advanced.TheVariants.{Waits, Ran, Replied, Broke}
 use Rattle.stream_task.specs.declared.task.Poll.{Poll}
@@ -88,6 +91,45 @@ TaskMeans = (shared : Bool) (had : ℕ → ℕ) (seen : Seen) (old : Task) (adde
 abbrev pub ShutAddsNothing : Type 0
 ShutAddsNothing = (shared : Bool) (seen : Seen) (old : Task) (added : Option Entry) (result : Poll Stepped) (new : Task)
     → is_shut old.session.state ≡ true → Polls shared seen old added result new → (added ≡ None) × (is_shut new.session.state ≡ true)
+
+-- ---- closes
+
+abbrev pub is_close : Work → Bool
+is_close work.Close = true
+is_close w = false
+
+-- none of the requests is a close
+abbrev pub HasNoClose : List Work → Type 0
+HasNoClose [] = Unit {0}
+HasNoClose (w ∷ ws) = (is_close w ≡ false) × HasNoClose ws
+
+-- no request stands behind a close
+abbrev pub ClosesLast : List Work → Type 0
+ClosesLast [] = Unit {0}
+ClosesLast (w ∷ ws) = (is_close w ≡ true → ws ≡ []) × ClosesLast ws
+
+-- A poll brings no close, and puts nothing behind one. Where it leaves the stream closed, the first request was a close, and
+-- that is answered.
+pub record ByCloses (old : Task) (result : Poll Stepped) (new : Task) : Type 0 where
+  pub none : HasNoClose old.asks → HasNoClose new.asks
+  pub last : ClosesLast old.asks → ClosesLast new.asks
+  pub closed : new.session.state ≡ Closed → (old.asks ≡ work.Close ∷ new.asks) × (result ≡ Ready (stepped.Replied reply.Closed))
+
+-- what closes a stream is a close alone
+abbrev pub ClosesAlone : Type 0
+ClosesAlone = (shared : Bool) (seen : Seen) (old : Task) (added : Option Entry) (result : Poll Stepped) (new : Task)
+    → old.session.state ≢ Closed → Polls shared seen old added result new → ByCloses old result new
+
+-- ---- units that begin
+
+abbrev pub IsNext : Seen → Option Entry → Type 0
+IsNext seen (Some (entry.Began unit by)) = unit ≡ seen.next
+IsNext seen added = Unit {0}
+
+-- a unit that a poll begins has the next number
+abbrev pub BegunAreNext : Type 0
+BegunAreNext = (shared : Bool) (seen : Seen) (old : Task) (added : Option Entry) (result : Poll Stepped) (new : Task)
+    → Polls shared seen old added result new → IsNext seen added
 
 -- ---- batches
 
