@@ -8,6 +8,7 @@ ghost use Rattle.hrana_value.specs.Whole.{IsWhole};
 ghost use Rattle.hrana_stmt.specs.Tree.{StmtTree};
 ghost use Rattle.hrana_stmt.specs.Written.{stmt_data};
 ghost use Rattle.hrana_batch.specs.Parts.{OutcomesTree};
+ghost use Rattle.hrana_batch.specs.Sent.{Begins};
 ghost use Rattle.hrana_batch.specs.declared.outcomes.Outcome.{Outcome};
 ghost use Rattle.hrana_batch.specs.Tree.{CondTree, StepTree, BatchTree, ResultEntryTree, ErrorEntryTree, BatchResultTree};
 ghost use Rattle.hrana_batch.specs.Written.{cond_data, type_member, step_cond, not_cond, list_cond, step_object, step_data, batch_data, result_entry, error_entry, batch_result_object, batch_result_data};
@@ -18,6 +19,14 @@ use hrana_value::{JsonText, end_with_text, send_text_member, send_uint64};
 use serde::Serializer;
 use std::alloc::Global;
 
+/// Begins an object of so many members, up to the value of its first.
+fn begin_with<S: Serializer>(count: usize, name: &str, out: &mut S) -> Result<(), S::Error>
+    ensures { OnOk result (Begins count name.now (S.written out.old) (S.written out.new)) }
+{
+    out.begin_map(Some(count))?;
+    out.key(name)
+}
+
 // ---- conditions
 
 fn send_step<S: Serializer>(kind: &str, step: u32, out: &mut S) -> Result<(), S::Error>
@@ -25,8 +34,7 @@ fn send_step<S: Serializer>(kind: &str, step: u32, out: &mut S) -> Result<(), S:
     ensures whole { OnOk result (IsWhole (step_cond kind.now step)) }
     ensures fits { step < 2 ^ 32 }
 {
-    out.begin_map(Some(2))?;
-    out.key("step")?;
+    begin_with(2, "step", out)?;
     send_uint64(u64::from(step), out)?;
     end_with_text("type", kind, out)
 }
@@ -61,8 +69,7 @@ fn send_not<S: Serializer>(part: &Cond, out: &mut S) -> Result<(), S::Error>
     ensures whole { OnOk result (IsWhole (not_cond (cond_data part.now))) }
     ensures back { OnOk result (CondTree part.now (cond_data part.now)) }
 {
-    out.begin_map(Some(2))?;
-    out.key("cond")?;
+    begin_with(2, "cond", out)?;
     send_cond(part, out)?;
     end_with_text("type", "not", out)
 }
@@ -73,8 +80,7 @@ fn send_joined<S: Serializer>(kind: &str, parts: &[Cond], out: &mut S) -> Result
     ensures whole { OnOk result (IsWhole (list_cond kind.now (map cond_data parts.now))) }
     ensures back { OnOk result (ItemsTree CondTree parts.now (items_of (map cond_data parts.now))) }
 {
-    out.begin_map(Some(2))?;
-    out.key("conds")?;
+    begin_with(2, "conds", out)?;
     send_conds(parts, out)?;
     end_with_text("type", kind, out)
 }
@@ -125,8 +131,7 @@ fn send_conditional<S: Serializer>(
     ensures condition { OnOk result (CondTree condition.now (cond_data condition.now)) }
     ensures stmt { OnOk result (StmtTree stmt.now (stmt_data stmt.now)) }
 {
-    out.begin_map(Some(2))?;
-    out.key("condition")?;
+    begin_with(2, "condition", out)?;
     send_cond(condition, out)?;
     end_with_stmt(alloc, stmt, out)
 }
@@ -153,8 +158,7 @@ impl JsonText for Batch {
     ghost tree = { BatchTree };
 
     fn send<S: Serializer>(&self, alloc: Global, out: &mut S) -> Result<(), S::Error> {
-        out.begin_map(Some(1))?;
-        out.key("steps")?;
+        begin_with(1, "steps", out)?;
         self.steps.send(alloc, out)?;
         out.end_map()
     }
@@ -243,8 +247,7 @@ fn send_outcomes<S: Serializer>(
     ensures whole { OnOk result (IsWhole (batch_result_object (array (items_of (map error_entry outcomes.now))) (array (items_of (map result_entry outcomes.now))))) }
     ensures back { OnOk result (OutcomesTree outcomes.now (items_of (map result_entry outcomes.now)) (items_of (map error_entry outcomes.now))) }
 {
-    out.begin_map(Some(2))?;
-    out.key("step_errors")?;
+    begin_with(2, "step_errors", out)?;
     send_entries::<Errors, S>(alloc, outcomes, out)?;
     out.key("step_results")?;
     send_entries::<Results, S>(alloc, outcomes, out)?;

@@ -83,18 +83,18 @@ send_cond-returns-in-Autocommit g t c =
 
 pub send_not-returns : goal.send_not-returns
 send_not-returns g t c =
-    let w = g.S.Serializer.written in let part = cond_data c.args.part.now in let sent = c.in_ok-send_cond.ensures in let ended = c.end_with_text in
+    let w = g.S.Serializer.written in let begun = c.in_ok-begin_with.ensures in let part = cond_data c.args.part.now in let sent = c.in_ok-send_cond.ensures in let ended = c.end_with_text in
     record {
-      sends = on_ok_weaker ended.result (λ e. (w c.begin_map.new.self, c.in_ok-begin_map.ensures, (w c.key.new.self, w c.send_cond.new.out, c.in_ok-key.ensures, sent.sends, e))) ended.ensures;
+      sends = on_ok_weaker ended.result (λ e. (begun.0, begun.1, (w c.begin_with.new.out, w c.send_cond.new.out, begun.2, sent.sends, e))) ended.ensures;
       whole = on_ok_weaker ended.result (λ e. whole_object (member (codes "cond") part (type_member (codes "not"))) refl (sent.whole, (whole_text (codes "not"), tt))) ended.ensures;
       back = on_ok_weaker ended.result (λ e. sent.back) ended.ensures;
     }
 
 pub send_joined-returns : goal.send_joined-returns
 send_joined-returns g t c =
-    let w = g.S.Serializer.written in let kind = c.args.kind.now in let parts = map cond_data c.args.parts.now in let sent = c.in_ok-send_conds.ensures in let ended = c.end_with_text in
+    let w = g.S.Serializer.written in let begun = c.in_ok-begin_with.ensures in let kind = c.args.kind.now in let parts = map cond_data c.args.parts.now in let sent = c.in_ok-send_conds.ensures in let ended = c.end_with_text in
     record {
-      sends = on_ok_weaker ended.result (λ e. (w c.begin_map.new.self, c.in_ok-begin_map.ensures, (w c.key.new.self, w c.send_conds.new.out, c.in_ok-key.ensures, sent.sends, e))) ended.ensures;
+      sends = on_ok_weaker ended.result (λ e. (begun.0, begun.1, (w c.begin_with.new.out, w c.send_conds.new.out, begun.2, sent.sends, e))) ended.ensures;
       whole = on_ok_weaker ended.result (λ e. whole_object (member (codes "conds") (array (items_of parts)) (type_member kind)) refl (sent.whole, (whole_text kind, tt))) ended.ensures;
       back = on_ok_weaker ended.result (λ e. sent.back) ended.ensures;
     }
