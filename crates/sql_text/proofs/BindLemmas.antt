@@ -115,7 +115,6 @@ pub bound-unclosed : (sql : List ℕ) (at : ℕ) (args : List Value) (named : Li
 unfolding bound
 bound-unclosed sql at args named is = ap (λ o. or_unclosed o (bound_read (numbers_fit sql) (parameters_of sql) args named)) is
 
-
 unclosed_ok : (o : Option ℕ) (answer : Result (List Value) BindFail) (values : List Value) → or_unclosed o answer ≡ Ok values → answer ≡ Ok values
 unclosed_ok None answer values is = is
 unclosed_ok (Some at) answer values is = cc is

@@ -74,11 +74,11 @@ send_cond-returns-in-Any g t c =
 
 pub send_cond-returns-in-Autocommit : goal.send_cond-returns-in-Autocommit
 send_cond-returns-in-Autocommit g t c =
-    let w = g.S.Serializer.written in let same = autocommit_written c.args.cond.now c.in-Autocommit.is in let sent = c.send_kind.ensures in
+    let w = g.S.Serializer.written in let same = autocommit_written c.args.cond.now c.in-Autocommit.is in let sent = c.send_text_member in
     record {
-      sends = subst (λ d. OnOk c.send_kind.result (SendsValue d (w c.args.out.now) (w c.send_kind.new.out))) same sent.sends;
-      whole = subst (λ d. OnOk c.send_kind.result (IsWhole d)) same sent.whole;
-      back = on_ok_weaker c.send_kind.result (λ e. autocommit_sent c.args.cond.now c.in-Autocommit.is) sent.sends;
+      sends = subst (λ d. OnOk sent.result (SendsValue d (w c.args.out.now) (w sent.new.out))) same sent.ensures;
+      whole = on_ok_weaker sent.result (λ e. subst IsWhole same (whole_object (type_member (codes "is_autocommit")) refl (whole_text (codes "is_autocommit"), tt))) sent.ensures;
+      back = on_ok_weaker sent.result (λ e. autocommit_sent c.args.cond.now c.in-Autocommit.is) sent.ensures;
     }
 
 pub send_not-returns : goal.send_not-returns
