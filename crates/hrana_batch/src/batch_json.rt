@@ -9,13 +9,13 @@ ghost use Rattle.hrana_stmt.specs.Tree.{StmtTree, StmtStands, count_of};
 ghost use Rattle.hrana_batch.specs.Tree.{CondTree, CondStands, StepTree, StepStands, StepsStand, StepArrayStands, BatchTree, BatchStands, BatchFits, NoTreeIsTwoBatches, FittingBatchesAreRead};
 ghost use Rattle.hrana_batch.specs.Parts.{CondReadsBack};
 ghost use Rattle.hrana_batch.specs.Progress.{NamesEarlierSteps};
-ghost use Rattle.hrana_batch.specs.Written.{step_object, optional_cond, step_data, batch_object, batch_data};
+ghost use Rattle.hrana_batch.specs.Written.{step_object, optional_cond, step_data, batch_data};
 
-use crate::objects::one_member;
+use crate::objects::{object_of_one, object_of_two};
 use crate::{Batch, Cond, MAX_STEPS, Step, Steps, cond_of_json, cond_to_json};
 use hrana_stmt::{stmt_of_json, stmt_to_json};
 use hrana_value::{Decline, NoMemory, ReadFail, both_readings, member_or_null, members, with_item};
-use serde_json::{Map, Value as Json, put};
+use serde_json::Value as Json;
 use std::alloc::Global;
 
 fn optional_cond_of_json(alloc: Global, step: usize, json: &Json) -> Result<Option<Cond>, ReadFail>
@@ -99,12 +99,10 @@ pub fn batch_of_json(alloc: Global, json: &Json) -> Result<Batch, ReadFail>
 fn step_members(alloc: Global, condition: Option<Json>, stmt: Json) -> Result<Json, NoMemory>
     ensures { IfOk result (λ json. view json ≡ step_object (option_map view condition) (view stmt)) }
 {
-    let mut members = Map::new(alloc);
-    if let Some(condition) = condition {
-        put(&mut members, alloc, "condition", condition)?;
+    match condition {
+        Some(condition) => object_of_two(alloc, "condition", condition, "stmt", stmt),
+        None => object_of_one(alloc, "stmt", stmt),
     }
-    put(&mut members, alloc, "stmt", stmt)?;
-    Ok(Json::Object(members))
 }
 
 fn optional_cond_to_json(alloc: Global, condition: &Option<Cond>) -> Result<Option<Json>, NoMemory>
@@ -137,19 +135,13 @@ fn steps_to_json(alloc: Global, steps: &[Step]) -> Result<Json, NoMemory>
     Ok(Json::Array(items))
 }
 
-fn batch_members(alloc: Global, steps: Json) -> Result<Json, NoMemory>
-    ensures { IfOk result (λ json. view json ≡ batch_object (view steps)) }
-{
-    Ok(Json::Object(one_member(alloc, "steps", steps)?))
-}
-
 /// Writes a batch with its members in byte order. A condition that is absent is left out.
 pub fn batch_to_json(alloc: Global, batch: &Batch) -> Result<Json, NoMemory>
     ensures written { IfOk result (λ json. view json ≡ batch_data batch.now) }
     ensures reads_back { IfOk result (λ json. BatchTree batch.now (view json)) }
 {
     let steps = steps_to_json(alloc, batch.steps.as_slice())?;
-    batch_members(alloc, steps)
+    object_of_one(alloc, "steps", steps)
 }
 
 /// A JSON tree is the form of at most one batch.

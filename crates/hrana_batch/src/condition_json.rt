@@ -1,7 +1,7 @@
 // Conditions from JSON trees and back.
 ghost use Rattle.std.specs.Prelude.{◌≡◌, ◌≤◌, ◌<◌, ◌^◌, ◌⊎◌, ℕ, IfOk, IfErr, IsTrue, ◌↔◌, codes, map, Ok, Err};
 ghost use Rattle.serde_json.specs.Data.{object, put as put_member};
-ghost use Rattle.serde_json.specs.View.{view, items_view, members_view};
+ghost use Rattle.serde_json.specs.View.{view, items_view};
 ghost use Rattle.hrana_value.specs.Declines.{Reads};
 ghost use Rattle.hrana_value.specs.Members.{part_at};
 ghost use Rattle.hrana_value.specs.Names.{RowsDiffer};
@@ -10,11 +10,11 @@ ghost use Rattle.hrana_batch.specs.Conditions.{depth_of, greatest};
 ghost use Rattle.hrana_batch.specs.Tree.{HasKind, CondTree, StandsWithin, CondStands, NoTreeIsTwoConditions};
 ghost use Rattle.hrana_batch.specs.Written.{cond_data, type_member, step_cond};
 
-use crate::objects::one_member;
+use crate::objects::{object_of_one, object_of_two};
 use crate::step_numbers::step_number_of_json;
 use crate::{Cond, Conds, MAX_CONDITION_DEPTH};
 use hrana_value::{Decline, NoMemory, ReadFail, index_of, member_or_null, text_member, with_item};
-use serde_json::{Map, Value as Json, json, put};
+use serde_json::{Value as Json, json};
 use sqlite_items::{Boxed, Items};
 use std::alloc::Global;
 
@@ -193,19 +193,11 @@ pub fn cond_of_json(alloc: Global, step: usize, json: &Json) -> Result<Cond, Rea
 
 // ---- writing
 
-fn kind_members(alloc: Global, kind: &str) -> Result<Map<String, Json>, NoMemory>
-    ensures { IfOk result (λ members. members_view members.entries ≡ type_member kind.now) }
-{
-    one_member(alloc, "type", json!(in alloc; kind)?)
-}
-
 // An object of this `type` and one more member.
 fn object_of_kind(alloc: Global, kind: &str, name: &str, part: Json) -> Result<Json, NoMemory>
     ensures { IfOk result (λ json. view json ≡ object (put_member name.now (view part) (type_member kind.now))) }
 {
-    let mut members = kind_members(alloc, kind)?;
-    put(&mut members, alloc, name, part)?;
-    Ok(Json::Object(members))
+    object_of_two(alloc, name, part, "type", json!(in alloc; kind)?)
 }
 
 fn step_to_json(alloc: Global, kind: &str, step: u32) -> Result<Json, NoMemory>
@@ -218,7 +210,7 @@ fn step_to_json(alloc: Global, kind: &str, step: u32) -> Result<Json, NoMemory>
 fn kind_to_json(alloc: Global, kind: &str) -> Result<Json, NoMemory>
     ensures { IfOk result (λ json. view json ≡ object (type_member kind.now)) }
 {
-    Ok(Json::Object(kind_members(alloc, kind)?))
+    object_of_one(alloc, "type", json!(in alloc; kind)?)
 }
 
 /// Writes a condition with its members in byte order.

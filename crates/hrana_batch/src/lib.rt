@@ -31,3 +31,4 @@ pub use result_json::{
     no_tree_is_two_batch_results,
 };
 pub use running::{BatchRun, Next, turns_are_meant};
+pub use sending::begin_with;

@@ -1,6 +1,6 @@
 // Conditions, batches and their results as JSON text.
 ghost use Rattle.std.specs.Prelude.{OnOk, ◌<◌, ◌^◌, Some, codes, map};
-ghost use Rattle.serde_json.specs.Data.{Data, array, object, member, no_members};
+ghost use Rattle.serde_json.specs.Data.{array, member, no_members};
 ghost use Rattle.serde_json.specs.Events.{SendsValue, SendsMembers};
 ghost use Rattle.serde_json.specs.View.{items_of};
 ghost use Rattle.hrana_value.specs.Trees.{ItemsTree};
@@ -8,15 +8,23 @@ ghost use Rattle.hrana_value.specs.Whole.{IsWhole};
 ghost use Rattle.hrana_stmt.specs.Tree.{StmtTree};
 ghost use Rattle.hrana_stmt.specs.Written.{stmt_data};
 ghost use Rattle.hrana_batch.specs.Parts.{OutcomesTree};
-ghost use Rattle.hrana_batch.specs.declared.outcomes.Outcome.{Outcome};
-ghost use Rattle.hrana_batch.specs.Tree.{CondTree, StepTree, BatchTree, ResultEntryTree, ErrorEntryTree, BatchResultTree};
-ghost use Rattle.hrana_batch.specs.Written.{cond_data, type_member, step_cond, not_cond, list_cond, step_object, step_data, batch_data, result_entry, error_entry, batch_result_object, batch_result_data};
+ghost use Rattle.hrana_batch.specs.Sent.{Begins, entry_of, EntryTree};
+ghost use Rattle.hrana_batch.specs.Tree.{CondTree, StepTree, BatchTree, BatchResultTree};
+ghost use Rattle.hrana_batch.specs.Written.{cond_data, step_cond, not_cond, list_cond, step_object, step_data, batch_data, result_entry, error_entry, batch_result_object, batch_result_data};
 
 use crate::{Batch, BatchResult, Cond, Outcome, Step};
 use hrana_stmt::Stmt;
 use hrana_value::{JsonText, end_with_text, send_text_member, send_uint64};
 use serde::Serializer;
 use std::alloc::Global;
+
+/// Begins an object of so many members, up to the value of its first.
+pub fn begin_with<S: Serializer>(count: usize, name: &str, out: &mut S) -> Result<(), S::Error>
+    ensures { OnOk result (Begins count name.now (S.written out.old) (S.written out.new)) }
+{
+    out.begin_map(Some(count))?;
+    out.key(name)
+}
 
 // ---- conditions
 
@@ -25,17 +33,9 @@ fn send_step<S: Serializer>(kind: &str, step: u32, out: &mut S) -> Result<(), S:
     ensures whole { OnOk result (IsWhole (step_cond kind.now step)) }
     ensures fits { step < 2 ^ 32 }
 {
-    out.begin_map(Some(2))?;
-    out.key("step")?;
+    begin_with(2, "step", out)?;
     send_uint64(u64::from(step), out)?;
     end_with_text("type", kind, out)
-}
-
-fn send_kind<S: Serializer>(kind: &str, out: &mut S) -> Result<(), S::Error>
-    ensures sends { OnOk result (SendsValue (object (type_member kind.now)) (S.written out.old) (S.written out.new)) }
-    ensures whole { OnOk result (IsWhole (object (type_member kind.now))) }
-{
-    send_text_member("type", kind, out)
 }
 
 /// Sends a condition with its members in byte order.
@@ -51,7 +51,7 @@ pub fn send_cond<S: Serializer>(cond: &Cond, out: &mut S) -> Result<(), S::Error
         Cond::Not(part) => send_not(part.get(), out),
         Cond::All(parts) => send_joined("and", parts.as_slice(), out),
         Cond::Any(parts) => send_joined("or", parts.as_slice(), out),
-        Cond::Autocommit => send_kind("is_autocommit", out),
+        Cond::Autocommit => send_text_member("type", "is_autocommit", out),
     }
 }
 
@@ -61,8 +61,7 @@ fn send_not<S: Serializer>(part: &Cond, out: &mut S) -> Result<(), S::Error>
     ensures whole { OnOk result (IsWhole (not_cond (cond_data part.now))) }
     ensures back { OnOk result (CondTree part.now (cond_data part.now)) }
 {
-    out.begin_map(Some(2))?;
-    out.key("cond")?;
+    begin_with(2, "cond", out)?;
     send_cond(part, out)?;
     end_with_text("type", "not", out)
 }
@@ -73,8 +72,7 @@ fn send_joined<S: Serializer>(kind: &str, parts: &[Cond], out: &mut S) -> Result
     ensures whole { OnOk result (IsWhole (list_cond kind.now (map cond_data parts.now))) }
     ensures back { OnOk result (ItemsTree CondTree parts.now (items_of (map cond_data parts.now))) }
 {
-    out.begin_map(Some(2))?;
-    out.key("conds")?;
+    begin_with(2, "conds", out)?;
     send_conds(parts, out)?;
     end_with_text("type", kind, out)
 }
@@ -125,8 +123,7 @@ fn send_conditional<S: Serializer>(
     ensures condition { OnOk result (CondTree condition.now (cond_data condition.now)) }
     ensures stmt { OnOk result (StmtTree stmt.now (stmt_data stmt.now)) }
 {
-    out.begin_map(Some(2))?;
-    out.key("condition")?;
+    begin_with(2, "condition", out)?;
     send_cond(condition, out)?;
     end_with_stmt(alloc, stmt, out)
 }
@@ -153,8 +150,7 @@ impl JsonText for Batch {
     ghost tree = { BatchTree };
 
     fn send<S: Serializer>(&self, alloc: Global, out: &mut S) -> Result<(), S::Error> {
-        out.begin_map(Some(1))?;
-        out.key("steps")?;
+        begin_with(1, "steps", out)?;
         self.steps.send(alloc, out)?;
         out.end_map()
     }
@@ -162,74 +158,45 @@ impl JsonText for Batch {
 
 // ---- results of batches
 
-/// One of the two lists of a result: what an outcome is there.
-trait Entries {
-    ghost form: { Outcome → Data };
-
-    ghost tree: { Outcome → Data → Type 0 };
-
-    fn send_entry<S: Serializer>(
-        alloc: Global,
-        outcome: &Outcome,
-        out: &mut S,
-    ) -> Result<(), S::Error>
-        ensures sends { OnOk result (SendsValue (form outcome.now) (S.written out.old) (S.written out.new)) }
-        ensures whole { OnOk result (IsWhole (form outcome.now)) }
-        ensures back { OnOk result (tree outcome.now (form outcome.now)) };
+/// The two lists of a result.
+#[derive(Clone, Copy)]
+enum Side {
+    Results,
+    Errors,
 }
 
-struct Results;
-
-struct Errors;
-
-impl Entries for Results {
-    ghost form = { result_entry };
-
-    ghost tree = { ResultEntryTree };
-
-    fn send_entry<S: Serializer>(
-        alloc: Global,
-        outcome: &Outcome,
-        out: &mut S,
-    ) -> Result<(), S::Error> {
-        match outcome {
-            Outcome::Done(given) => given.send(alloc, out),
-            Outcome::Failed(_) => out.unit(),
-            Outcome::Skipped => out.unit(),
-        }
-    }
-}
-
-impl Entries for Errors {
-    ghost form = { error_entry };
-
-    ghost tree = { ErrorEntryTree };
-
-    fn send_entry<S: Serializer>(
-        alloc: Global,
-        outcome: &Outcome,
-        out: &mut S,
-    ) -> Result<(), S::Error> {
-        match outcome {
-            Outcome::Failed(error) => error.send(alloc, out),
-            Outcome::Done(_) => out.unit(),
-            Outcome::Skipped => out.unit(),
-        }
-    }
-}
-
-fn send_entries<E: Entries, S: Serializer>(
+/// Sends what an outcome is in one of the lists.
+fn send_entry<S: Serializer>(
     alloc: Global,
+    side: Side,
+    outcome: &Outcome,
+    out: &mut S,
+) -> Result<(), S::Error>
+    ensures sends { OnOk result (SendsValue (entry_of side outcome.now) (S.written out.old) (S.written out.new)) }
+    ensures whole { OnOk result (IsWhole (entry_of side outcome.now)) }
+    ensures back { OnOk result (EntryTree side outcome.now (entry_of side outcome.now)) }
+{
+    match (side, outcome) {
+        (Side::Results, Outcome::Done(given)) => given.send(alloc, out),
+        (Side::Results, _) => out.unit(),
+        (Side::Errors, Outcome::Failed(error)) => error.send(alloc, out),
+        (Side::Errors, _) => out.unit(),
+    }
+}
+
+fn send_entries<S: Serializer>(
+    alloc: Global,
+    side: Side,
     outcomes: &[Outcome],
     out: &mut S,
 ) -> Result<(), S::Error>
-    ensures sends { OnOk result (SendsValue (array (items_of (map E.form outcomes.now))) (S.written out.old) (S.written out.new)) }
-    ensures whole { OnOk result (IsWhole (array (items_of (map E.form outcomes.now)))) }
-    ensures back { OnOk result (ItemsTree E.tree outcomes.now (items_of (map E.form outcomes.now))) }
+    ensures sends { OnOk result (SendsValue (array (items_of (map (entry_of side) outcomes.now))) (S.written out.old) (S.written out.new)) }
+    ensures whole { OnOk result (IsWhole (array (items_of (map (entry_of side) outcomes.now)))) }
+    ensures back { OnOk result (ItemsTree (EntryTree side) outcomes.now (items_of (map (entry_of side) outcomes.now))) }
 {
     out.begin_seq(Some(outcomes.len()))?;
     for outcome in outcomes {
-        E::send_entry(alloc, outcome, out)?;
+        send_entry(alloc, side, outcome, out)?;
     }
     out.end_seq()
 }
@@ -243,11 +210,10 @@ fn send_outcomes<S: Serializer>(
     ensures whole { OnOk result (IsWhole (batch_result_object (array (items_of (map error_entry outcomes.now))) (array (items_of (map result_entry outcomes.now))))) }
     ensures back { OnOk result (OutcomesTree outcomes.now (items_of (map result_entry outcomes.now)) (items_of (map error_entry outcomes.now))) }
 {
-    out.begin_map(Some(2))?;
-    out.key("step_errors")?;
-    send_entries::<Errors, S>(alloc, outcomes, out)?;
+    begin_with(2, "step_errors", out)?;
+    send_entries(alloc, Side::Errors, outcomes, out)?;
     out.key("step_results")?;
-    send_entries::<Results, S>(alloc, outcomes, out)?;
+    send_entries(alloc, Side::Results, outcomes, out)?;
     out.end_map()
 }
 

@@ -1,8 +1,8 @@
 // The tokens of a text: its pieces that are neither blank nor comment, and where the text ends.
-ghost use Rattle.std.specs.Prelude.{◌≡◌, ◌<◌, ◌≤◌, [], IfOk, length, slice_index, slice_range};
+ghost use Rattle.std.specs.Prelude.{◌≡◌, ◌<◌, ◌≤◌, [], IfOk, OnOk, length, slice_index, slice_range};
 ghost use Rattle.std.specs.Str.{IsCharBoundary};
 ghost use Rattle.keeper_dialect.specs.Reading.{rank_of};
-ghost use Rattle.keeper_dialect.specs.Tokens.{early_keyword, late_keyword, or_keyword, keyword_or_word, symbol_of_word, symbol_of_run, symbol_of, seen_after, is_passed, token_of, tokens_of, end_token, view, views};
+ghost use Rattle.keeper_dialect.specs.Tokens.{early_keyword, late_keyword, or_keyword, keyword_or_word, symbol_of_word, symbol_of_run, parameter_or_stray, symbol_of, seen_after, is_passed, token_of, tokens_of, end_token, view, views};
 
 use crate::names::is_same_name;
 use hrana_value::NoMemory;
@@ -154,22 +154,33 @@ fn symbol_of_run(quote: u8) -> Symbol
     }
 }
 
+/// A parameter, if its number fits.
+fn parameter_or_stray(number: Option<u16>) -> Symbol
+    ensures { result ≡ parameter_or_stray number }
+{
+    match number {
+        Some(number) => Symbol::Parameter(number),
+        None => Symbol::Stray,
+    }
+}
+
 /// What a piece is. A parameter takes its number.
-fn symbol_of<'a>(seen: &mut Parameters<'a>, kind: PieceKind, text: &'a str) -> Symbol
+fn symbol_of<'a>(
+    seen: &mut Parameters<'a>,
+    kind: PieceKind,
+    text: &'a str,
+) -> Result<Symbol, NoMemory>
     requires some { 0 < length text.now }
-    ensures symbol { result ≡ symbol_of seen.old kind text.now }
-    ensures seen { seen.new ≡ seen_after seen.old kind text.now }
+    ensures symbol { IfOk result (λ symbol. symbol ≡ symbol_of seen.old kind text.now) }
+    ensures seen { OnOk result (seen.new ≡ seen_after seen.old kind text.now) }
 {
     match kind {
-        PieceKind::Quoted => symbol_of_run(text.as_bytes()[0]),
-        PieceKind::Parameter => match next_parameter(seen, text.as_bytes()) {
-            Some(number) => Symbol::Parameter(number),
-            None => Symbol::Stray,
-        },
-        PieceKind::Word => symbol_of_word(text),
-        PieceKind::Number => Symbol::Number,
-        PieceKind::Sign(sign) => Symbol::Sign(sign),
-        PieceKind::Blank | PieceKind::Comment | PieceKind::Unclosed => Symbol::Stray,
+        PieceKind::Quoted => Ok(symbol_of_run(text.as_bytes()[0])),
+        PieceKind::Parameter => Ok(parameter_or_stray(next_parameter(seen, text.as_bytes())?)),
+        PieceKind::Word => Ok(symbol_of_word(text)),
+        PieceKind::Number => Ok(Symbol::Number),
+        PieceKind::Sign(sign) => Ok(Symbol::Sign(sign)),
+        PieceKind::Blank | PieceKind::Comment | PieceKind::Unclosed => Ok(Symbol::Stray),
     }
 }
 
@@ -189,23 +200,23 @@ fn token_of<'a>(
     from: usize,
     at: usize,
     piece: PlacedPiece,
-) -> Token<'a>
+) -> Result<Token<'a>, NoMemory>
     requires before { from ≤ at }
     requires some { at < piece.end }
     requires within { piece.end ≤ length sql.now }
     requires starts { IsCharBoundary sql.now from }
     requires between { IsCharBoundary sql.now at }
     requires ends { IsCharBoundary sql.now piece.end }
-    ensures token { view result ≡ token_of seen.old (slice_range sql.now from at) at piece.kind (slice_range sql.now at piece.end) }
-    ensures seen { seen.new ≡ seen_after seen.old piece.kind (slice_range sql.now at piece.end) }
+    ensures token { IfOk result (λ token. view token ≡ token_of seen.old (slice_range sql.now from at) at piece.kind (slice_range sql.now at piece.end)) }
+    ensures seen { OnOk result (seen.new ≡ seen_after seen.old piece.kind (slice_range sql.now at piece.end)) }
 {
     let text = &sql[at..piece.end];
-    Token {
-        symbol: symbol_of(seen, piece.kind, text),
+    Ok(Token {
+        symbol: symbol_of(seen, piece.kind, text)?,
         before: &sql[from..at],
         text,
         start: at,
-    }
+    })
 }
 
 /// The tokens of a text.
@@ -214,13 +225,14 @@ pub(crate) fn tokens_of<'a>(alloc: Global, sql: &'a str) -> Result<Vec<Token<'a>
 {
     let text = sql.as_bytes();
     let mut tokens = Vec::new(alloc);
-    let mut seen = Parameters::new();
+    let mut seen = Parameters::new(alloc);
     let mut from = 0;
     let mut at = 0;
     while at < text.len() {
         let piece = piece_at(text, at);
         if !is_passed(piece.kind) {
-            tokens.push(token_of(sql, &mut seen, from, at, piece))?;
+            let token = token_of(sql, &mut seen, from, at, piece)?;
+            tokens.push(token)?;
             from = piece.end;
         }
         at = piece.end;

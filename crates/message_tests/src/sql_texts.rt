@@ -2,7 +2,7 @@
 use hrana_stmt::{NamedArg, NamedArgs};
 use hrana_value::{Txt, Value, Values};
 use sql_text::{
-    BindFail, Class, Mode, PrepareFail, Prepared, SplitFail, StatementFail, are_bound, bind,
+    BindFail, Class, Mode, PrepareFail, Prepared, SplitFail, StatementFail, bind,
     class_of, limits_are, prepare, split, statement_of,
 };
 use std::alloc::Global;
@@ -187,14 +187,6 @@ fn arguments_are_refused(rt: HostRuntime) {
             BindFail::Missing(1)
         )
     );
-}
-
-#[test]
-fn arguments_that_stand_need_no_copy(rt: HostRuntime) {
-    let two = [Value::Integer(1), Value::Integer(2)];
-    assert!(rt; are_bound("SELECT ?, :a", &two, &[]));
-    assert!(rt; !are_bound("SELECT ?2, ?1, @a", &two, &[]));
-    assert!(rt; !are_bound("SELECT ?, ? 'x", &two, &[]));
 }
 
 // What a text is prepared as with so many integers, from 0, as its positional arguments.

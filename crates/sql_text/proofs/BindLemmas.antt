@@ -115,9 +115,6 @@ pub bound-unclosed : (sql : List ℕ) (at : ℕ) (args : List Value) (named : Li
 unfolding bound
 bound-unclosed sql at args named is = ap (λ o. or_unclosed o (bound_read (numbers_fit sql) (parameters_of sql) args named)) is
 
-pub expected_from : (ps : List Numbered) (args : List Value) (named : List NamedArg) → length args ≤ greatest ps → true ≡ list_all (λ arg. is_some (number_met ps arg.name)) named → all_expected ps args named ≡ true
-expected_from ps args named few meet = and_from (nat_le (length args) (greatest ps)) (list_all (λ arg. is_some (number_met ps arg.name)) named) (le-leb (length args) (greatest ps) few) (sym meet)
-
 unclosed_ok : (o : Option ℕ) (answer : Result (List Value) BindFail) (values : List Value) → or_unclosed o answer ≡ Ok values → answer ≡ Ok values
 unclosed_ok None answer values is = is
 unclosed_ok (Some at) answer values is = cc is
@@ -148,41 +145,3 @@ bound_count sql args named values is =
 pub count_from : (sql : List ℕ) (args : List Value) (named : List NamedArg) (answer : Result (List Value) BindFail) → AnswersAs answer (bound sql args named) → IfOk answer (λ values. length values ≡ greatest (parameters_of sql))
 count_from sql args named (Ok values) is = bound_count sql args named values is
 count_from sql args named (Err failure) is = tt
-
--- ---- arguments that are the values as they stand
-
-at_length : (front rest : List Value) (value : Value) → slice_get (front ++ value ∷ rest) (length front) ≡ Some value
-at_length [] rest value = refl
-at_length (x ∷ front) rest value = at_length front rest value
-
-module _ (ps : List Numbered) where
-  -- of so many numbers, those from one on have their arguments
-  record AreGiven (args rest : List Value) (n : ℕ) : Type 0 where
-    pub values : map (value_of ps args []) (numbers_from n (length rest)) ≡ rest
-    pub missing : find (is_missing ps args []) (numbers_from n (length rest)) ≡ None
-
-  given_more : (args rest : List Value) (value : Value) (n : ℕ) → slice_get args (n - 1) ≡ Some value → AreGiven args rest (n + 1) → AreGiven args (value ∷ rest) n
-  given_more args rest value n is next = record {
-    values = ap (λ o. unwrap_or o Null ∷ map (value_of ps args []) (numbers_from (n + 1) (length rest))) is ∙ ap (λ vs. value ∷ vs) next.values;
-    missing = ap (λ o. cond (is_none o && has_number ps n) (Some n) (find (is_missing ps args []) (numbers_from (n + 1) (length rest)))) is ∙ next.missing;
-  }
-
-  given_from : (args front rest : List Value) (n : ℕ) → args ≡ front ++ rest → n ≡ length front + 1 → AreGiven args rest n
-  given_from args front [] n is at = record { values = refl; missing = refl }
-  given_from args front (value ∷ rest) n is at =
-      let place : n - 1 ≡ length front = omega arith in
-      let here : slice_get args (n - 1) ≡ Some value = ap (λ i. slice_get args i) place ∙ ap (λ vs. slice_get vs (length front)) is ∙ at_length front rest value in
-      given_more args rest value n here
-      (given_from args (front ++ value ∷ []) rest (n + 1) (is ∙ sym (append_assoc front (value ∷ []) rest)) (omega (arith, length-append front (value ∷ []))))
-
--- positional arguments, as many as there are numbers, are the values
-pub given_bound : (sql : List ℕ) (scan : Scan) (ps : List Numbered) (args : List Value) → IsScanOf sql scan ps → scan.fit ≡ true → length args ≡ greatest ps → bound sql args [] ≡ Ok args
-given_bound sql scan ps args is fit count =
-    let given = given_from ps args [] args 1 refl refl in
-    let all : numbers_from 1 (length args) ≡ numbers_from 1 (greatest ps) = ap (numbers_from 1) count in
-    bound-scanned sql scan ps args [] is
-    ∙ ap (λ v. bound_read v ps args []) fit
-    ∙ cond-true (all_expected ps args []) (or_missing (first_missing ps args []) (values_of ps args [])) (Err fail.Unexpected) (expected_from ps args [] (omega (arith, count)) refl)
-    ∙ ap (λ ns. or_missing (find (is_missing ps args []) ns) (map (value_of ps args []) ns)) (sym all)
-    ∙ ap (λ o. or_missing o (map (value_of ps args []) (numbers_from 1 (length args)))) given.missing
-    ∙ ap Ok given.values

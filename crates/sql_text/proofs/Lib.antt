@@ -11,8 +11,7 @@
 -- each_run_has_its_pieces            statements/each_run_has_its_pieces, StatementLemmas over CutLemmas
 -- each_statement_reads_as_its_text   statements/each_statement_reads_as_its_text, StatementLemmas
 -- next_parameter: number, taken      parameters/{digits_value, Parameters}, UnnamedLemmas; parameter_table, ParameterLemmas
--- bind: exact, count                 scan, binding/{note_named, values_by, bind_numbered, bind}, BindLemmas
--- are_bound                          scan, binding/are_bound, BindLemmas
+-- bind: exact, count                 scan, binding/{note_named, values_by, bind_named, bind}, BindLemmas
 -- prepare                            scan, FoundLemmas; prepared/{one_found, text_at, prepare}, PreparedLemmas over StatementLemmas
 pub mod PieceLemmas
 pub mod PieceSizes

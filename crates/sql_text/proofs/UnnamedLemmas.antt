@@ -1,9 +1,10 @@
 -- Parameters that are a `?` and nothing else.
-use Rattle.std.proofs.Common.{◌≡◌, ◌<◌, ◌≤◌, ◌+◌, ℕ, suc, zero, max, Bool, true, false, List, [], ◌∷◌, Option, None, refl, sym, ap, ◌∙◌, arith}
+use Rattle.std.proofs.Common.{◌≡◌, ◌<◌, ◌≤◌, ◌+◌, ℕ, suc, zero, max, Bool, true, false, List, [], ◌∷◌, Option, None, Box, refl, sym, ap, ◌∙◌, arith}
 use Rattle.std.specs.Prelude.{All, nat_lt, nat_le, ◌==◌, ◌||◌}
 use Rattle.std.proofs.lemmas.Bool.{cond-false, or_from, le-ltb, ne_eqb, leb-true, leb-false}
 use Rattle.std.proofs.lemmas.Bool.Decides.{nat_tests}
 use Rattle.std.proofs.lemmas.List.Elements.{All-nil, All-cons}
+use Rattle.std.specs.declared.alloc.Global.{Global}
 use Rattle.sql_text.specs.Parameters.{Numbered, greatest_from, greatest, has_number, numbered, inserted, with_number, unnamed_from, unnamed, listed}
 
 greatest_from-unnamed : (m n count : ℕ) → n ≡ m + 1 → greatest_from m (unnamed_from n count) ≡ m + count
@@ -49,7 +50,7 @@ pub has_number-none : (count k : ℕ) → k ≤ 0 → nat_lt 0 k ≡ has_number 
 has_number-none count k none = le-ltb 0 k none ∙ sym (has_none k 1 count (omega arith))
 
 -- without a table the parameters are unnamed
-pub listed_none : (count : ℕ) (table : Option (List Numbered)) (ps : List Numbered) → table ≡ None → listed count table ≡ ps → unnamed count ≡ ps
+pub listed_none : (count : ℕ) (table : Option (Box (List Numbered) Global)) (ps : List Numbered) → table ≡ None → listed count table ≡ ps → unnamed count ≡ ps
 listed_none count table ps is all = ap (listed count) (sym is) ∙ all
 
 unnamed_all : (n count : ℕ) → All (λ p. p.prefix ≡ 63) (unnamed_from n count)

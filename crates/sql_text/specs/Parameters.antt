@@ -1,8 +1,9 @@
 -- The parameters of a text and their numbers, off the list of its pieces.
-use Rattle.std.specs.Prelude.{◌≡◌, ◌==◌, ◌+◌, ◌-◌, ◌*◌, ◌≤◌, ℕ, zero, suc, max, nat_lt, nat_le, Bool, true, false, ◌&&◌, List, [], ◌∷◌, length, map, drop, slice_index, Option, Some, None, unwrap_or, if◌then◌else◌, All}
+use Rattle.std.specs.Prelude.{◌≡◌, ◌==◌, ◌+◌, ◌-◌, ◌*◌, ◌≤◌, ℕ, zero, suc, max, nat_lt, nat_le, Bool, true, false, ◌&&◌, List, [], ◌∷◌, length, map, drop, slice_index, Option, Some, None, unwrap_or, if◌then◌else◌, All, Box}
 use Rattle.std.specs.List.{list_any}
 use Rattle.std.specs.Borrow.{Bor}
 use Rattle.std.specs.Str.{bytes_eq}
+use Rattle.std.specs.declared.alloc.Global.{Global}
 use Rattle.sql_text.specs.declared.pieces.PieceKind.{PieceKind}
 use Rattle.sql_text.specs.declared.pieces.PieceKind.TheVariants as kind
 use Rattle.sql_text.specs.declared.limits.TheConstants.{MAX_PARAMETERS}
@@ -127,6 +128,6 @@ abbrev pub unnamed : ℕ → List Numbered
 unnamed count = unnamed_from 1 count
 
 -- the parameters in a table, or so many `?` where there is none
-abbrev pub listed : ℕ → Option (List Numbered) → List Numbered
+abbrev pub listed : ℕ → Option (Box (List Numbered) Global) → List Numbered
 listed count None = unnamed count
-listed count (Some table) = table
+listed count (Some table) = table.value

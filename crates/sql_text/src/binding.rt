@@ -1,5 +1,5 @@
 // The values that arguments give the parameters of a text.
-ghost use Rattle.std.specs.Prelude.{◌≡◌, ◌<◌, ◌≤◌, ◌+◌, ◌-◌, ℕ, List, [], None, length, is_some, slice_index_or, slice_get, IfOk, IfErr, IfSome, IsTrue, Ok, OnOk};
+ghost use Rattle.std.specs.Prelude.{◌≡◌, ◌<◌, ◌≤◌, ◌+◌, ◌-◌, ℕ, List, [], None, length, is_some, slice_index_or, slice_get, IfOk, IfErr, IfSome, OnOk};
 ghost use Rattle.std.specs.Bool.{OnTrue};
 ghost use Rattle.std.specs.Option.{option_or, option_copied};
 ghost use Rattle.std.specs.List.{list_all};
@@ -11,7 +11,7 @@ use crate::limits::MAX_PARAMETERS;
 use crate::parameter_table::PLACES;
 use crate::parameters::Parameters;
 use crate::pieces::is_prefix;
-use crate::scan::scan_pieces;
+use crate::scan::{ScanFail, scan_pieces};
 use hrana_stmt::NamedArg;
 use hrana_value::{NoMemory, Value, Values};
 use std::alloc::Global;
@@ -140,6 +140,23 @@ fn values_by(
     Ok(values)
 }
 
+/// The values of numbered parameters, with named arguments and no more positional ones than there are numbers.
+fn bind_named(
+    alloc: Global,
+    parameters: &Parameters,
+    args: &[Value],
+    named: &[NamedArg],
+) -> Result<Values, BindFail>
+    requires { length args.now ≤ greatest parameters.now }
+    ensures { AnswersAs result (bound_values parameters.now args.now named.now) }
+{
+    let mut table: [Option<&Value>; PLACES] = [None; PLACES];
+    if !note_named(parameters, named, &mut table) {
+        return Err(BindFail::Unexpected);
+    }
+    values_by(alloc, parameters, args, &table)
+}
+
 /// The values of numbered parameters. A table is made only for named arguments.
 fn bind_numbered(
     alloc: Global,
@@ -153,13 +170,10 @@ fn bind_numbered(
         return Err(BindFail::Unexpected);
     }
     if named.is_empty() {
-        return values_by(alloc, parameters, args, &[]);
+        values_by(alloc, parameters, args, &[])
+    } else {
+        bind_named(alloc, parameters, args, named)
     }
-    let mut table: [Option<&Value>; PLACES] = [None; PLACES];
-    if !note_named(parameters, named, &mut table) {
-        return Err(BindFail::Unexpected);
-    }
-    values_by(alloc, parameters, args, &table)
 }
 
 /// The values of the parameters of a text that was read.
@@ -190,24 +204,10 @@ pub fn bind(
     ensures exact { AnswersAs result (bound sql.now args.now named.now) }
     ensures count { IfOk result (λ values. length values ≡ greatest (parameters_of sql.now)) }
 {
-    let mut parameters = Parameters::new();
+    let mut parameters = Parameters::new(alloc);
     match scan_pieces(sql.as_bytes(), &mut parameters) {
         Ok(scan) => bind_scanned(alloc, scan.fit, &parameters, args, named),
-        Err(fail) => Err(BindFail::Unclosed { at: fail.at }),
-    }
-}
-
-/// Whether the arguments are the values of the text's parameters as they stand: all are positional, one for each number.
-/// Then they need no copy. Takes no memory.
-pub fn are_bound(sql: &str, args: &[Value], named: &[NamedArg]) -> bool
-    ensures { IsTrue result → bound sql.now args.now named.now ≡ Ok args.now }
-{
-    if !named.is_empty() {
-        return false;
-    }
-    let mut parameters = Parameters::new();
-    match scan_pieces(sql.as_bytes(), &mut parameters) {
-        Ok(scan) => scan.fit && args.len() == usize::from(parameters.greatest()),
-        Err(_) => false,
+        Err(ScanFail::Unclosed { at }) => Err(BindFail::Unclosed { at }),
+        Err(ScanFail::NoMemory) => Err(BindFail::NoMemory),
     }
 }

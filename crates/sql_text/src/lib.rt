@@ -14,7 +14,7 @@ mod scan;
 mod spans;
 mod statements;
 
-pub use binding::{BindFail, are_bound, bind};
+pub use binding::{BindFail, bind};
 pub use class::{Class, Mode};
 pub use limits::{MAX_PARAMETERS, limits_are};
 pub use parameters::{Parameters, next_parameter};

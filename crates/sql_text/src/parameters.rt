@@ -1,18 +1,22 @@
 // The parameters of a text, numbered in its order.
-ghost use Rattle.std.specs.Prelude.{◌≡◌, ◌+◌, ◌<◌, ◌≤◌, ◌∷◌, [], ◌↔◌, List, min, length, IfSome, IsTrue};
+ghost use Rattle.std.specs.Prelude.{◌≡◌, ◌+◌, ◌<◌, ◌≤◌, ◌∷◌, [], ◌↔◌, List, min, length, IfOk, IfSome, IsTrue, OnOk, OnErr};
 ghost use Rattle.std.specs.Bool.{OnTrue};
-ghost use Rattle.sql_text.specs.Parameters.{Numbered, greatest, has_number, number_of_name, digits_value, number_taken, with_parameter, with_number, fits, number_within, with_fitting};
+ghost use Rattle.sql_text.specs.Parameters.{Numbered, greatest, has_number, number_of_name, digits_value, number_taken, with_parameter, with_number, fits, number_within, with_fitting, unnamed};
 
 use crate::limits::MAX_PARAMETERS;
 use crate::parameter_table::ParameterTable;
+use hrana_value::NoMemory;
+use std::alloc::Global;
 use std::marker::Model;
 
-/// The parameters of a text so far. Most texts have none but `?`, and need no table.
+/// The parameters of a text so far. Most texts have none but `?`, and need no table: memory is taken for one at the
+/// first parameter that isn't a `?`.
 #[derive(Drop)]
 pub struct Parameters<'a> {
+    alloc: Global,
     /// How many there are, where there is no table: each is a `?`.
     unnamed: u16,
-    table: Option<ParameterTable<'a>>,
+    table: Option<Box<ParameterTable<'a>>>,
 }
 
 impl<'a> Model for Parameters<'a> {
@@ -48,11 +52,29 @@ fn is_unnamed(text: &[u8]) -> bool
     text == b"?".as_slice()
 }
 
+/// A table of so many `?`, with a parameter more unless its number came before.
+fn table_with<'a>(
+    alloc: Global,
+    count: u16,
+    number: u16,
+    text: &'a [u8],
+) -> Result<Box<ParameterTable<'a>>, NoMemory>
+    requires few { count ≤ MAX_PARAMETERS }
+    requires small { number ≤ MAX_PARAMETERS }
+    requires some { 0 < length text.now }
+    ensures { IfOk result (λ table. table.value ≡ with_number (unnamed count) number text.now) }
+{
+    let mut table = ParameterTable::of_unnamed(count);
+    table.add(number, text);
+    Ok(Box::new(alloc, table)?)
+}
+
 impl<'a> Parameters<'a> {
-    pub fn new() -> Self
+    pub fn new(alloc: Global) -> Self
         ensures { result ≡ [] }
     {
         Parameters {
+            alloc,
             unnamed: 0,
             table: None,
         }
@@ -112,10 +134,11 @@ impl<'a> Parameters<'a> {
     }
 
     /// Adds a parameter, unless its number came before.
-    fn add(&mut self, number: u16, text: &'a [u8])
+    fn add(&mut self, number: u16, text: &'a [u8]) -> Result<(), NoMemory>
         requires small { number ≤ MAX_PARAMETERS }
         requires some { 0 < length text.now }
-        ensures { self.new ≡ with_number self.old number text.now }
+        ensures ok { OnOk result (self.new ≡ with_number self.old number text.now) }
+        ensures err { OnErr result (self.new ≡ self.old) }
     {
         match &mut self.table {
             Some(table) => table.add(number, text),
@@ -123,34 +146,41 @@ impl<'a> Parameters<'a> {
                 if number == self.unnamed + 1 && is_unnamed(text) {
                     self.unnamed = number;
                 } else {
-                    let mut table = ParameterTable::of_unnamed(self.unnamed);
-                    table.add(number, text);
+                    let table = table_with(self.alloc, self.unnamed, number, text)?;
                     self.table = Some(table);
                 }
             }
         }
+        Ok(())
     }
 }
 
 /// The number of the next parameter. It is taken, unless its number isn't from 1 to the most.
-pub fn next_parameter<'a>(parameters: &mut Parameters<'a>, text: &'a [u8]) -> Option<u16>
+pub fn next_parameter<'a>(
+    parameters: &mut Parameters<'a>,
+    text: &'a [u8],
+) -> Result<Option<u16>, NoMemory>
     requires some { 0 < length text.now }
-    ensures number { result ≡ number_within (number_taken parameters.old text.now) }
-    ensures taken { parameters.new ≡ with_fitting parameters.old text.now }
+    ensures number { IfOk result (λ number. number ≡ number_within (number_taken parameters.old text.now)) }
+    ensures taken { OnOk result (parameters.new ≡ with_fitting parameters.old text.now) }
+    ensures err { OnErr result (parameters.new ≡ parameters.old) }
 {
     let number = parameters.number_taken(text);
     if number == 0 || number > MAX_PARAMETERS {
-        return None;
+        return Ok(None);
     }
-    parameters.add(number, text);
-    Some(number)
+    parameters.add(number, text)?;
+    Ok(Some(number))
 }
 
 /// Takes the next parameter, unless its number doesn't fit.
-pub(crate) fn take_next<'a>(parameters: &mut Parameters<'a>, text: &'a [u8]) -> bool
+pub(crate) fn take_next<'a>(
+    parameters: &mut Parameters<'a>,
+    text: &'a [u8],
+) -> Result<bool, NoMemory>
     requires some { 0 < length text.now }
-    ensures fits { result ≡ fits (number_taken parameters.old text.now) }
-    ensures taken { OnTrue result (parameters.new ≡ with_parameter parameters.old text.now) }
+    ensures fits { IfOk result (λ fit. fit ≡ fits (number_taken parameters.old text.now)) }
+    ensures taken { IfOk result (λ fit. OnTrue fit (parameters.new ≡ with_parameter parameters.old text.now)) }
 {
-    next_parameter(parameters, text).is_some()
+    Ok(next_parameter(parameters, text)?.is_some())
 }

@@ -15,7 +15,7 @@ use crate::binding::{BindFail, bind_scanned};
 use crate::class::Class;
 use crate::class_words::class_here;
 use crate::parameters::Parameters;
-use crate::scan::{Found, Unclosed, scan_pieces};
+use crate::scan::{Found, ScanFail, scan_pieces};
 use crate::spans::Span;
 use hrana_stmt::NamedArg;
 use hrana_value::{NoMemory, Txt, Value, Values};
@@ -129,7 +129,7 @@ fn with_values(
 }
 
 /// The one statement of a text, with its class and a value for each of its parameters. The text is cut into pieces once.
-/// Memory is taken for the statement's text and its values alone.
+/// Memory is taken for the statement's text and its values, and for a table where a parameter isn't a `?`.
 pub fn prepare(
     alloc: Global,
     sql: &str,
@@ -141,10 +141,11 @@ pub fn prepare(
     ensures classed { IfOk result (λ prepared. prepared.class ≡ class_of_text prepared.sql) }
     ensures passed { IfOk result (λ prepared. class_refused prepared.class ≡ None) }
 {
-    let mut parameters = Parameters::new();
+    let mut parameters = Parameters::new(alloc);
     let scan = match scan_pieces(sql.as_bytes(), &mut parameters) {
         Ok(scan) => scan,
-        Err(Unclosed { at }) => return Err(PrepareFail::Unclosed { at }),
+        Err(ScanFail::Unclosed { at }) => return Err(PrepareFail::Unclosed { at }),
+        Err(ScanFail::NoMemory) => return Err(PrepareFail::NoMemory),
     };
     let Statement { span, class } = match one_found(scan.found) {
         Ok(statement) => statement,

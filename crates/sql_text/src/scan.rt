@@ -14,6 +14,7 @@ use crate::class_words::{ClassSoFar, class_here, first_piece_read, next_piece_re
 use crate::parameters::{Parameters, take_next};
 use crate::pieces::{PieceKind, PlacedPiece, piece_at};
 use crate::spans::{Span, is_unclosed};
+use hrana_value::NoMemory;
 
 /// The statements of a text so far.
 #[derive(Clone, Copy)]
@@ -35,10 +36,24 @@ pub(crate) struct Scan {
     pub(crate) fit: bool,
 }
 
-/// A quote or comment with no end, and where it starts.
+/// Why a text wasn't read.
 #[derive(Clone, Copy, Debug)]
-pub(crate) struct Unclosed {
-    pub(crate) at: usize,
+pub(crate) enum ScanFail {
+    /// The quote or comment that starts at this byte has no end.
+    Unclosed { at: usize },
+    /// For a table of parameters.
+    NoMemory,
+}
+
+impl From<NoMemory> for ScanFail {
+    ghost use Rattle.std.specs.Prelude.{◌≡◌};
+    ghost use Rattle.sql_text.specs.declared.scan.ScanFail.TheVariants.{NoMemory as OutOfMemory};
+
+    ghost from_gives = { λ _ e. e ≡ OutOfMemory };
+
+    fn from(_: NoMemory) -> Self {
+        ScanFail::NoMemory
+    }
 }
 
 fn is_parameter(kind: PieceKind) -> bool
@@ -97,10 +112,10 @@ fn with_piece(found: Found, start: usize, piece: PlacedPiece, bytes: &[u8]) -> F
 pub(crate) fn scan_pieces<'a>(
     text: &'a [u8],
     parameters: &mut Parameters<'a>,
-) -> Result<Scan, Unclosed>
+) -> Result<Scan, ScanFail>
     requires empty { parameters.old ≡ [] }
     ensures ok { IfOk result (λ scan. IsScanOf text.now scan parameters.new) }
-    ensures unclosed { IfErr result (λ fail. unclosed_at text.now ≡ Some fail.at) }
+    ensures unclosed { IfErr result (λ fail. (at : ℕ) → fail ≡ ScanFail.Unclosed at → unclosed_at text.now ≡ Some at) }
 {
     let mut found = Found::Nothing;
     let mut fit = true;
@@ -108,12 +123,12 @@ pub(crate) fn scan_pieces<'a>(
     while at < text.len() {
         let piece = piece_at(text, at);
         if is_unclosed(piece.kind) {
-            return Err(Unclosed { at });
+            return Err(ScanFail::Unclosed { at });
         }
         let bytes = &text[at..piece.end];
         found = with_piece(found, at, piece, bytes);
         if fit && is_parameter(piece.kind) {
-            fit = take_next(parameters, bytes);
+            fit = take_next(parameters, bytes)?;
         }
         at = piece.end;
     }

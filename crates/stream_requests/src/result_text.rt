@@ -7,6 +7,7 @@ ghost use Rattle.stream_requests.specs.Results.{IsPipelineReply, ResultTree};
 ghost use Rattle.stream_requests.specs.WrittenResults.{response_object, response_data, replied_data, result_data};
 
 use crate::{Reply, ask_kind_name, reply_member_count, send_error_as, send_reply};
+use hrana_batch::begin_with;
 use hrana_value::{JsonText, end_with_text};
 use serde::Serializer;
 use std::alloc::Global;
@@ -43,8 +44,7 @@ fn send_replied<S: Serializer>(alloc: Global, reply: &Reply, out: &mut S) -> Res
     ensures whole { OnOk result (IsWhole (replied_data reply.now)) }
     ensures back { OnOk result (ReplyReadsBack reply.now) }
 {
-    out.begin_map(Some(2))?;
-    out.key("response")?;
+    begin_with(2, "response", out)?;
     send_answered(alloc, reply, out)?;
     end_with_text("type", "ok", out)
 }

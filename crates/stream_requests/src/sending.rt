@@ -13,6 +13,7 @@ ghost use Rattle.stream_requests.specs.Replies.{reply_front, ReplyReadsBack};
 ghost use Rattle.stream_requests.specs.WrittenEntries.{entry_data, error_object};
 
 use crate::{Ask, CursorEntry, EntryList, Reply};
+use hrana_batch::begin_with;
 use hrana_stmt::{Cols, WireError, send_optional_int64, send_sql};
 use hrana_value::{JsonText, Values, end_with_text, send_int32, send_uint64};
 use serde::Serializer;
@@ -30,8 +31,7 @@ fn send_begin<S: Serializer>(
     ensures whole { OnOk result (IsWhole (entry_data (CursorEntry.StepBegin step cols.now))) }
     ensures back { OnOk result (EntryTree (CursorEntry.StepBegin step cols.now) (entry_data (CursorEntry.StepBegin step cols.now))) }
 {
-    out.begin_map(Some(3))?;
-    out.key("cols")?;
+    begin_with(3, "cols", out)?;
     cols.send(alloc, out)?;
     out.key("step")?;
     send_uint64(u64::from(step), out)?;
@@ -47,8 +47,7 @@ fn send_end<S: Serializer>(
     ensures whole { OnOk result (IsWhole (entry_data (CursorEntry.StepEnd affected last_rowid))) }
     ensures back { OnOk result (EntryTree (CursorEntry.StepEnd affected last_rowid) (entry_data (CursorEntry.StepEnd affected last_rowid))) }
 {
-    out.begin_map(Some(3))?;
-    out.key("affected_row_count")?;
+    begin_with(3, "affected_row_count", out)?;
     send_uint64(affected, out)?;
     out.key("last_insert_rowid")?;
     send_optional_int64(last_rowid, out)?;
@@ -65,8 +64,7 @@ fn send_step_error<S: Serializer>(
     ensures whole { OnOk result (IsWhole (entry_data (CursorEntry.StepError step error.now))) }
     ensures back { OnOk result (EntryTree (CursorEntry.StepError step error.now) (entry_data (CursorEntry.StepError step error.now))) }
 {
-    out.begin_map(Some(3))?;
-    out.key("error")?;
+    begin_with(3, "error", out)?;
     error.send(alloc, out)?;
     out.key("step")?;
     send_uint64(u64::from(step), out)?;
@@ -78,8 +76,7 @@ fn send_row<S: Serializer>(alloc: Global, row: &Values, out: &mut S) -> Result<(
     ensures whole { OnOk result (IsWhole (entry_data (CursorEntry.Row row.now))) }
     ensures back { OnOk result (EntryTree (CursorEntry.Row row.now) (entry_data (CursorEntry.Row row.now))) }
 {
-    out.begin_map(Some(2))?;
-    out.key("row")?;
+    begin_with(2, "row", out)?;
     row.send(alloc, out)?;
     end_with_text("type", "row", out)
 }
@@ -95,8 +92,7 @@ pub fn send_error_as<S: Serializer>(
     ensures whole { OnOk result (IsWhole (error_object kind.now (error_data error.now))) }
     ensures back { OnOk result (WireErrorTree error.now (error_data error.now)) }
 {
-    out.begin_map(Some(2))?;
-    out.key("error")?;
+    begin_with(2, "error", out)?;
     error.send(alloc, out)?;
     end_with_text("type", kind, out)
 }

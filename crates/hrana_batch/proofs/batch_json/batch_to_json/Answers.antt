@@ -9,5 +9,5 @@ use Rattle.hrana_batch.proofs.batch_json.batch_to_json.Goals as goal
 
 pub returns-clause-reads_back : goal.returns-clause-reads_back
 returns-clause-reads_back c =
-    IfOk-weaken c.batch_members.result (λ json. view json ≡ batch_object (view c.in_ok-steps.steps)) (λ json. BatchTree c.args.batch.now (view json))
-    (λ json is. batch_back c.args.batch.now (view json) (view c.in_ok-steps.steps) is (subst (λ steps. ArrayTree StepTree steps (view c.in_ok-steps.steps)) c.as_slice.ensures c.in_ok-steps.ensures.reads_back)) c.batch_members.ensures
+    IfOk-weaken c.object_of_one.result (λ json. view json ≡ batch_object (view c.in_ok-steps.steps)) (λ json. BatchTree c.args.batch.now (view json))
+    (λ json is. batch_back c.args.batch.now (view json) (view c.in_ok-steps.steps) is (subst (λ steps. ArrayTree StepTree steps (view c.in_ok-steps.steps)) c.as_slice.ensures c.in_ok-steps.ensures.reads_back)) c.object_of_one.ensures

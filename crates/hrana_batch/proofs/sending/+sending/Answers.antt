@@ -74,27 +74,27 @@ send_cond-returns-in-Any g t c =
 
 pub send_cond-returns-in-Autocommit : goal.send_cond-returns-in-Autocommit
 send_cond-returns-in-Autocommit g t c =
-    let w = g.S.Serializer.written in let same = autocommit_written c.args.cond.now c.in-Autocommit.is in let sent = c.send_kind.ensures in
+    let w = g.S.Serializer.written in let same = autocommit_written c.args.cond.now c.in-Autocommit.is in let sent = c.send_text_member in
     record {
-      sends = subst (λ d. OnOk c.send_kind.result (SendsValue d (w c.args.out.now) (w c.send_kind.new.out))) same sent.sends;
-      whole = subst (λ d. OnOk c.send_kind.result (IsWhole d)) same sent.whole;
-      back = on_ok_weaker c.send_kind.result (λ e. autocommit_sent c.args.cond.now c.in-Autocommit.is) sent.sends;
+      sends = subst (λ d. OnOk sent.result (SendsValue d (w c.args.out.now) (w sent.new.out))) same sent.ensures;
+      whole = on_ok_weaker sent.result (λ e. subst IsWhole same (whole_object (type_member (codes "is_autocommit")) refl (whole_text (codes "is_autocommit"), tt))) sent.ensures;
+      back = on_ok_weaker sent.result (λ e. autocommit_sent c.args.cond.now c.in-Autocommit.is) sent.ensures;
     }
 
 pub send_not-returns : goal.send_not-returns
 send_not-returns g t c =
-    let w = g.S.Serializer.written in let part = cond_data c.args.part.now in let sent = c.in_ok-send_cond.ensures in let ended = c.end_with_text in
+    let w = g.S.Serializer.written in let begun = c.in_ok-begin_with.ensures in let part = cond_data c.args.part.now in let sent = c.in_ok-send_cond.ensures in let ended = c.end_with_text in
     record {
-      sends = on_ok_weaker ended.result (λ e. (w c.begin_map.new.self, c.in_ok-begin_map.ensures, (w c.key.new.self, w c.send_cond.new.out, c.in_ok-key.ensures, sent.sends, e))) ended.ensures;
+      sends = on_ok_weaker ended.result (λ e. (begun.0, begun.1, (w c.begin_with.new.out, w c.send_cond.new.out, begun.2, sent.sends, e))) ended.ensures;
       whole = on_ok_weaker ended.result (λ e. whole_object (member (codes "cond") part (type_member (codes "not"))) refl (sent.whole, (whole_text (codes "not"), tt))) ended.ensures;
       back = on_ok_weaker ended.result (λ e. sent.back) ended.ensures;
     }
 
 pub send_joined-returns : goal.send_joined-returns
 send_joined-returns g t c =
-    let w = g.S.Serializer.written in let kind = c.args.kind.now in let parts = map cond_data c.args.parts.now in let sent = c.in_ok-send_conds.ensures in let ended = c.end_with_text in
+    let w = g.S.Serializer.written in let begun = c.in_ok-begin_with.ensures in let kind = c.args.kind.now in let parts = map cond_data c.args.parts.now in let sent = c.in_ok-send_conds.ensures in let ended = c.end_with_text in
     record {
-      sends = on_ok_weaker ended.result (λ e. (w c.begin_map.new.self, c.in_ok-begin_map.ensures, (w c.key.new.self, w c.send_conds.new.out, c.in_ok-key.ensures, sent.sends, e))) ended.ensures;
+      sends = on_ok_weaker ended.result (λ e. (begun.0, begun.1, (w c.begin_with.new.out, w c.send_conds.new.out, begun.2, sent.sends, e))) ended.ensures;
       whole = on_ok_weaker ended.result (λ e. whole_object (member (codes "conds") (array (items_of parts)) (type_member kind)) refl (sent.whole, (whole_text kind, tt))) ended.ensures;
       back = on_ok_weaker ended.result (λ e. sent.back) ended.ensures;
     }

@@ -8,18 +8,18 @@ use Rattle.hrana_batch.proofs.sending.send_outcomes.Goals as goal
 
 pub returns : goal.returns
 returns g c =
-    let w = g.S.Serializer.written in let errors = c.in_ok-send_entries.ensures in let results = c.in_ok-send_entries-2.ensures in let os = c.args.outcomes.now in
+    let w = g.S.Serializer.written in let begun = c.in_ok-begin_with.ensures in let errors = c.in_ok-send_entries.ensures in let results = c.in_ok-send_entries-2.ensures in let os = c.args.outcomes.now in
     let members = member (codes "step_errors") (array (items_of (map error_entry os))) (member (codes "step_results") (array (items_of (map result_entry os))) no_members) in
     record {
       sends = on_ok_weaker c.end_map.result (λ e. (
-        w c.begin_map.new.self,
-        c.in_ok-begin_map.ensures,
+        begun.0,
+        begun.1,
         (
-          w c.key.new.self,
+          w c.begin_with.new.out,
           w c.send_entries.new.out,
-          c.in_ok-key.ensures,
+          begun.2,
           errors.sends,
-          (w c.key-2.new.self, w c.send_entries-2.new.out, c.in_ok-key-2.ensures, results.sends, e),
+          (w c.key.new.self, w c.send_entries-2.new.out, c.in_ok-key.ensures, results.sends, e),
         ),
       )) c.end_map.ensures;
       whole = on_ok_weaker c.end_map.result (λ e. whole_object members refl (errors.whole, (results.whole, tt))) c.end_map.ensures;

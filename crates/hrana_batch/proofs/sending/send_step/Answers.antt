@@ -8,9 +8,9 @@ use Rattle.hrana_batch.proofs.sending.send_step.Goals as goal
 
 pub returns-clause-sends : goal.returns-clause-sends
 returns-clause-sends g c =
-    let w = g.S.Serializer.written in
-    let sent = subst (λ n. SendsValue (number (unsigned n)) (w c.key.new.self) (w c.send_uint64.new.out)) c.from.ensures c.in_ok-send_uint64.ensures.sends in
-    on_ok_weaker c.end_with_text.result (λ e. (w c.begin_map.new.self, c.in_ok-begin_map.ensures, (w c.key.new.self, w c.send_uint64.new.out, c.in_ok-key.ensures, sent, e))) c.end_with_text.ensures
+    let w = g.S.Serializer.written in let begun = c.in_ok-begin_with.ensures in
+    let sent = subst (λ n. SendsValue (number (unsigned n)) (w c.begin_with.new.out) (w c.send_uint64.new.out)) c.from.ensures c.in_ok-send_uint64.ensures.sends in
+    on_ok_weaker c.end_with_text.result (λ e. (begun.0, begun.1, (w c.begin_with.new.out, w c.send_uint64.new.out, begun.2, sent, e))) c.end_with_text.ensures
 
 pub returns-clause-whole : goal.returns-clause-whole
 returns-clause-whole g c =

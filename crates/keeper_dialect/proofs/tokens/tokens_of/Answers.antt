@@ -43,7 +43,7 @@ loop-at-preserved-in_ok-push c =
     let end = h.between c.utf8.sql c.loop-at.invariant.between in
     let taken = tokens_from-taken c.loop-at.seen c.args.sql.now c.loop-at.from c.loop-at.at c.piece_at-piece.result.end c.piece_at-piece.result.kind _ _ h.stands (sym c.is_passed.ensures ∙ c.if-not-is_passed.true) c.piece_at-piece.ensures.later h.within in
     record {
-      read = more_views c.loop-at.tokens.items c.token_of.result c.push.new.self.items _ _ _ _ _ c.in_ok-push.ensures.items c.token_of.ensures.token taken (ap (λ seen. tokens_from seen (slice_range c.args.sql.now c.piece_at-piece.result.end c.piece_at-piece.result.end) c.piece_at-piece.result.end (pieces (drop c.piece_at-piece.result.end c.args.sql.now))) c.token_of.ensures.seen) c.loop-at.invariant.read;
+      read = more_views c.loop-at.tokens.items c.in_ok-token.token c.push.new.self.items _ _ _ _ _ c.in_ok-push.ensures.items c.in_ok-token.ensures.token taken (ap (λ seen. tokens_from seen (slice_range c.args.sql.now c.piece_at-piece.result.end c.piece_at-piece.result.end) c.piece_at-piece.result.end (pieces (drop c.piece_at-piece.result.end c.args.sql.now))) c.in_ok-token.ensures.seen) c.loop-at.invariant.read;
       same = c.loop-at.invariant.same;
       order = omega arith;
       within = h.within;

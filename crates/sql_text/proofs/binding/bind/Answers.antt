@@ -1,4 +1,5 @@
-use Rattle.std.proofs.Common.{◌∙◌, ap, sym, subst}
+use Rattle.std.proofs.Common.{◌∙◌, ap, sym, subst, Err}
+use Rattle.sql_text.specs.declared.binding.BindFail.TheVariants.{Unclosed}
 use Rattle.sql_text.specs.Spans.{unclosed_at}
 use Rattle.sql_text.specs.Binding.{AnswersAs}
 use Rattle.sql_text.specs.Found.{IsScanOf}
@@ -13,6 +14,8 @@ returns-in-Ok-clause-exact c =
 pub returns-in-Ok-clause-count : goal.returns-in-Ok-clause-count
 returns-in-Ok-clause-count c = count_from c.args.sql.now c.args.args.now c.args.named.now c.bind_scanned.result (returns-in-Ok-clause-exact c)
 
-pub returns-in-Err-clause-exact : goal.returns-in-Err-clause-exact
-returns-in-Err-clause-exact c =
-    bound-unclosed c.args.sql.now c.in-Err.fail.at c.args.args.now c.args.named.now (ap unclosed_at (sym c.as_bytes.ensures.value) ∙ c.in-Err.ensures.unclosed)
+pub returns-in-Err-Unclosed-clause-exact : goal.returns-in-Err-Unclosed-clause-exact
+returns-in-Err-Unclosed-clause-exact c =
+    let failed = c.in-Err-Unclosed in
+    bound-unclosed c.args.sql.now failed.at c.args.args.now c.args.named.now (ap unclosed_at (sym c.as_bytes.ensures.value) ∙ failed.ensures.unclosed failed.at failed.field-0-is)
+    ∙ ap (λ at. Err (Unclosed at)) (sym failed.at-is)

@@ -1,4 +1,5 @@
-use Rattle.std.proofs.Common.{◌≡◌, ◌∙◌, sym, ap, subst, None}
+use Rattle.std.proofs.Common.{◌≡◌, ◌∙◌, sym, ap, subst, None, Err}
+use Rattle.sql_text.specs.declared.prepared.PrepareFail.TheVariants.{Unclosed}
 use Rattle.sql_text.specs.Class.{class_of_text}
 use Rattle.sql_text.specs.Spans.{spans_of, unclosed_at}
 use Rattle.sql_text.specs.Found.{IsScanOf}
@@ -12,15 +13,17 @@ use Rattle.sql_text.proofs.prepared.prepare.Goals.{In-Ok, After-with_values}
 scanned : (c : In-Ok) → IsScanOf c.args.sql.now c.in-Ok.scan c.scan_pieces.new.parameters
 scanned c = subst (λ sql. IsScanOf sql c.in-Ok.scan c.scan_pieces.new.parameters) c.as_bytes.ensures.value c.in-Ok.ensures.ok
 
+pub returns-in-Err-Unclosed-clause-exact : goal.returns-in-Err-Unclosed-clause-exact
+returns-in-Err-Unclosed-clause-exact c =
+    let failed = c.in-Err-Unclosed in
+    prepared-unclosed c.args.sql.now c.args.args.now c.args.named.now failed.at (ap unclosed_at (sym c.as_bytes.ensures.value) ∙ failed.ensures.unclosed failed.at failed.field-0-is)
+    ∙ ap (λ at. Err (Unclosed at)) (sym failed.at-is)
+
 pub returns-in-Err-clause-exact : goal.returns-in-Err-clause-exact
 returns-in-Err-clause-exact c =
-    prepared-unclosed c.args.sql.now c.args.args.now c.args.named.now c.in-Err.field-0.at (ap unclosed_at (sym c.as_bytes.ensures.value) ∙ c.in-Err.ensures.unclosed)
-
-pub returns-in-Err-one_found-clause-exact : goal.returns-in-Err-one_found-clause-exact
-returns-in-Err-one_found-clause-exact c =
-    let read = scanned (goal.at.returns-in-Err-one_found-clause-exact c).In-Ok in
-    prepared-not_one c.args.sql.now c.args.args.now c.args.named.now c.in-Ok.scan c.scan_pieces.new.parameters read c.in-Err-one_found.fail
-    (c.in-Err-one_found.ensures (spans_of c.args.sql.now) (class_of_text c.args.sql.now) read.found)
+    let read = scanned (goal.at.returns-in-Err-clause-exact c).In-Ok in
+    prepared-not_one c.args.sql.now c.args.args.now c.args.named.now c.in-Ok.scan c.scan_pieces.new.parameters read c.in-Err.fail
+    (c.in-Err.ensures (spans_of c.args.sql.now) (class_of_text c.args.sql.now) read.found)
 
 pub returns-in-Some-clause-exact : goal.returns-in-Some-clause-exact
 returns-in-Some-clause-exact c =
@@ -43,8 +46,8 @@ returns-clause-exact c =
     subst (PreparesAs c.with_values.result)
     (ap (λ text. with_values text c.in-Ok-one_found.statement.class values) c.text_at.ensures
     ∙ prepared-passed c.args.sql.now c.args.args.now c.args.named.now c.in-Ok.scan c.scan_pieces.new.parameters read c.in-Ok-one_found.statement
-    (c.in-Ok-one_found.ensures (spans_of c.args.sql.now) (class_of_text c.args.sql.now) read.found) (passes c))
-    (joined c)
+    (c.in-Ok-one_found.ensures (spans_of c.args.sql.now) (class_of_text c.args.sql.now) read.found) (passes (goal.at.returns-clause-exact c).After-with_values))
+    (joined (goal.at.returns-clause-exact c).After-with_values)
 
 pub returns-clause-classed : goal.returns-clause-classed
 returns-clause-classed c =
@@ -52,7 +55,7 @@ returns-clause-classed c =
     classed_from c.text_at.result.now c.in-Ok-one_found.statement.class _ c.with_values.result
     (ap class_of_text c.text_at.ensures ∙ class_of_statement c.args.sql.now c.args.args.now c.args.named.now c.in-Ok.scan c.scan_pieces.new.parameters read c.in-Ok-one_found.statement
     (c.in-Ok-one_found.ensures (spans_of c.args.sql.now) (class_of_text c.args.sql.now) read.found))
-    (joined c)
+    (joined (goal.at.returns-clause-classed c).After-with_values)
 
 pub returns-clause-passed : goal.returns-clause-passed
-returns-clause-passed c = passed_from c.text_at.result.now c.in-Ok-one_found.statement.class _ c.with_values.result (passes c) (joined c)
+returns-clause-passed c = passed_from c.text_at.result.now c.in-Ok-one_found.statement.class _ c.with_values.result (passes (goal.at.returns-clause-passed c).After-with_values) (joined (goal.at.returns-clause-passed c).After-with_values)

@@ -8,9 +8,9 @@ use Rattle.hrana_batch.proofs.sending.BatchJsonText.send.Goals as goal
 
 pub returns : goal.returns
 returns g c =
-    let w = g.S.Serializer.written in let sent = c.in_ok-send.ensures in
+    let w = g.S.Serializer.written in let begun = c.in_ok-begin_with.ensures in let sent = c.in_ok-send.ensures in
     record {
-      sends = on_ok_weaker c.end_map.result (λ e. (w c.begin_map.new.self, c.in_ok-begin_map.ensures, (w c.key.new.self, w c.send.new.out, c.in_ok-key.ensures, sent.sends, e))) c.end_map.ensures;
+      sends = on_ok_weaker c.end_map.result (λ e. (begun.0, begun.1, (w c.begin_with.new.out, w c.send.new.out, begun.2, sent.sends, e))) c.end_map.ensures;
       whole = on_ok_weaker c.end_map.result (λ e. whole_object (member (codes "steps") (array (items_of (map step_data c.args.self.now.steps))) no_members) refl (sent.whole, tt)) c.end_map.ensures;
       back = on_ok_weaker c.end_map.result (λ e. sent.back) c.end_map.ensures;
     }
