@@ -16,22 +16,24 @@ use Rattle.stream_task.specs.declared.session.TxnState.TheVariants.{Auto, Deferr
 use Rattle.stream_task.specs.declared.work.Work.{Work}
 use Rattle.stream_task.specs.declared.work.Work.TheVariants as work
 use Rattle.hrana_hub.specs.declared.events.Event.{Event}
-use Rattle.hrana_hub.specs.Maps.{Numbered, Ids, at, put, placed, without, id_at, without_id}
+use Rattle.hrana_hub.specs.Maps.{Numbered, Ids, at, put, placed, without, each, id_at, without_id}
 use Rattle.hrana_hub.specs.State.{Conn, Stream, State}
 use Rattle.hrana_hub.specs.Arrivals.{fresh, joined, waiting, waited, with_stream, with_request, is_close, shut}
 use Rattle.hrana_hub.specs.Polled.{Polled, PollFell, reply_in, is_over, is_closed, still_wait, first_id, later_ids, replies, polled, streams_left, replied, dropped, seen_of}
 use Rattle.hrana_hub.specs.Ended.{let_go, without_conn}
+use Rattle.hrana_hub.specs.Moments.{is_due, expired, after, at_moment}
 use Rattle.hrana_hub.specs.Run.{Run, start, more}
 use Rattle.hrana_hub.specs.Step.{counted, new_conn, with_new_conn}
 use Rattle.hrana_hub.specs.Laws.{InEveryRun, WaitsAreCounted, waits_of}
-use Rattle.hrana_hub.proofs.Changes.{Change, rests, comes, marks, joins, asks_for, polls, falls, loses, ends, IsOpen, IsMarked, step_changes}
+use Rattle.hrana_hub.proofs.Changes.{Change, rests, comes, marks, joins, asks_for, polls, falls, loses, expires, ends, IsOpen, IsMarked, step_changes}
 use Rattle.hrana_hub.proofs.EntryLemmas.{at_put_other}
+use Rattle.hrana_hub.proofs.Expiring.{each_cases}
 use Rattle.hrana_hub.proofs.IdLists.{Lead, Apart, lead_weaker, lead_both, lead_at, lead_placed, lead_without, apart_placed, apart_without, freed}
 use Rattle.hrana_hub.proofs.Kept.{Kept, counted_kept, run_kept}
 use Rattle.hrana_hub.proofs.Listed.{put_cases, placed_cases, without_cases, let_go_cases}
 use Rattle.hrana_hub.proofs.MapLemmas.{none_some, some_one, at_placed, at_placed_other, Rises}
 use Rattle.hrana_hub.proofs.Paired.{EachPairs, first_waits, run_paired}
-use Rattle.hrana_hub.proofs.WaitSums.{share, share_none, share_all, sum_put, sum_without, sum_placed, sum_none, sum_let_go}
+use Rattle.hrana_hub.proofs.WaitSums.{share, share_none, share_all, sum_put, sum_without, sum_placed, sum_none, sum_let_go, sum_each, after_share}
 
 -- ---- closes
 
@@ -172,11 +174,11 @@ marks_counts s c k k' h o m =
 
 -- ---- a stream opens
 
-fresh_closing : (c n : ℕ) → Closing (fresh c n)
-fresh_closing c n = record { last = tt; closed = λ e. refl }
+fresh_closing : (now c n : ℕ) → Closing (fresh now c n)
+fresh_closing now c n = record { last = tt; closed = λ e. refl }
 
-fresh_named : (c n : ℕ) → Named c (fresh c n)
-fresh_named c n = record { conn = refl; none = tt; unclosed = λ e. true≢false (sym (ap is_closed e)) }
+fresh_named : (now c n : ℕ) → Named c (fresh now c n)
+fresh_named now c n = record { conn = refl; none = tt; unclosed = λ e. true≢false (sym (ap is_closed e)) }
 
 share_fresh : (b : Bool) → ◌≡◌ {A = ℕ} (cond b 0 0) 0
 share_fresh true = refl
@@ -184,16 +186,16 @@ share_fresh false = refl
 
 module _ (s : State) (c : ℕ) (kept : Kept s) (h : Counts s) where
   abbrev one_more : Numbered Stream
-  one_more = placed (s.opened + 1) (fresh c (s.opened + 1)) s.streams
+  one_more = placed (s.opened + 1) (fresh s.now c (s.opened + 1)) s.streams
 
   lead_more : (d n : ℕ) → Leads s.opened s.streams d n → Leads (s.opened + 1) one_more d n
   lead_more d n l = record {
     given = omega (arith, l.given);
-    named = λ x e. l.named x (sym (at_placed_other (s.opened + 1) n (fresh c (s.opened + 1)) s.streams (λ same. omega (arith, same, l.given))) ∙ e);
+    named = λ x e. l.named x (sym (at_placed_other (s.opened + 1) n (fresh s.now c (s.opened + 1)) s.streams (λ same. omega (arith, same, l.given))) ∙ e);
   }
 
   more_waits : (d : ℕ) → waits_of d one_more ≡ waits_of d s.streams
-  more_waits d = (let none : share d (fresh c (s.opened + 1)) ≡ 0 = share_fresh _ in omega (arith, none, sum_placed d (s.opened + 1) (fresh c (s.opened + 1)) s.streams (kept.above (s.opened + 1) (omega arith))))
+  more_waits d = (let none : share d (fresh s.now c (s.opened + 1)) ≡ 0 = share_fresh _ in omega (arith, none, sum_placed d (s.opened + 1) (fresh s.now c (s.opened + 1)) s.streams (kept.above (s.opened + 1) (omega arith))))
 
   conn_more : (d : ℕ) (j : Conn) → ConnCounts s.opened s.streams d j → ConnCounts (s.opened + 1) one_more d j
   conn_more d j old = record {
@@ -208,7 +210,7 @@ module _ (s : State) (c : ℕ) (kept : Kept s) (h : Counts s) where
       let n = s.opened + 1 in
       let old = h.conn c k there in
       let now = conn_more c k old in
-      let own : Leads n one_more c n = record { given = omega arith; named = λ x e. subst (Named c) (some_one (sym (at_placed n (fresh c n) s.streams) ∙ e)) (fresh_named c n) } in
+      let own : Leads n one_more c n = record { given = omega arith; named = λ x e. subst (Named c) (some_one (sym (at_placed n (fresh s.now c n) s.streams) ∙ e)) (fresh_named s.now c n) } in
       record {
         conn = conns_put n one_more s.conns c k (joined id n k) there (record {
           counted = now.counted;
@@ -216,8 +218,8 @@ module _ (s : State) (c : ℕ) (kept : Kept s) (h : Counts s) where
           leads = lead_placed (λ m. Leads n one_more c m) id n k.ids own now.leads;
           apart = apart_placed id n k.ids (lead_weaker (λ m. Leads s.opened s.streams c m) (λ m. m ≢ n) k.ids (λ m l same. omega (arith, same, l.given)) old.leads) old.apart;
         }) (λ d j other e. conn_more d j (h.conn d j e));
-        stream = λ m z e. elim (placed_cases n m (fresh c n) z s.streams e) [
-          | inl mine ↦ subst Closing (sym mine.1) (fresh_closing c n)
+        stream = λ m z e. elim (placed_cases n m (fresh s.now c n) z s.streams e) [
+          | inl mine ↦ subst Closing (sym mine.1) (fresh_closing s.now c n)
           | inr other ↦ h.stream m z other.1
         ];
       }
@@ -303,7 +305,7 @@ module _ (law : ClosesAlone) (shared : Bool) (s : State) (n : ℕ) (x : Stream) 
     given = reply_in p.result
 
     abbrev next : Stream
-    next = polled given p.task x
+    next = polled s.now given p.task x
 
     by : ByCloses x.task p.result p.task
     by = law shared (seen_of p.by s) x.task p.entry p.result p.task (λ e. no_waiting x.task.asks waits ((h.stream n x known).closed e)) p.polls
@@ -395,6 +397,29 @@ loses_counts s c k kept h there = record {
   stream = λ m z e. h.stream m z (let_go_cases k.streams m z s.streams kept.streams_rise e).1;
 }
 
+-- a stream that expires has no request, and isn't closed
+after_closing : (moment : ℕ) (x : Stream) → Closing x → Closing (after moment x)
+after_closing moment x h = by (is_due moment x)
+  where
+    by : (b : Bool) → Closing (cond b (expired x) x)
+    by true = record { last = tt; closed = λ e. refl }
+    by false = h
+
+after_named : (moment c : ℕ) (x : Stream) → Named c x → Named c (after moment x)
+after_named moment c x h = by (is_due moment x)
+  where
+    by : (b : Bool) → Named c (cond b (expired x) x)
+    by true = record { conn = h.conn; none = tt; unclosed = λ e. cc }
+    by false = h
+
+expires_counts : (s : State) (moment : ℕ) → Counts s → Counts (at_moment moment s)
+expires_counts s moment h = record {
+  conn = λ c k e. conn_on s.opened c k s.streams (each (after moment) s.streams) (sum_each c (after moment) (after_share c moment) s.streams)
+      (λ m z f. (let was = each_cases (after moment) m z s.streams f in record { x = was.0; there = was.1; named = λ own. subst (Named c) (sym was.2) (after_named moment c was.0 own) }))
+      (h.conn c k e);
+  stream = λ m z f. (let was = each_cases (after moment) m z s.streams f in subst Closing (sym was.2) (after_closing moment was.0 (h.stream m was.0 was.1)));
+}
+
 -- ---- every step
 
 pub change_counts : {event : Event} → ClosesAlone → (shared : Bool) (s : State) (added : List Entry) (out : Outs) (new : State) → Kept s → EachPairs s.streams → Counts s → Change shared s added out new event → Counts new
@@ -406,6 +431,7 @@ change_counts law shared s added out new kept pairs h (asks_for c text k stream 
 change_counts law shared s added out new kept pairs h (polls stream x k known waits heard p) = polls_counts law shared s stream.0 x k kept pairs h known heard added out new waits p
 change_counts law shared s added out new kept pairs h (falls stream x k known heard p) = falls_counts law shared s stream.0 x k kept pairs h known heard added out new p
 change_counts law shared s added out new kept pairs h (loses c k known ended left) = subst Counts (sym left) (loses_counts s c k kept h known)
+change_counts law shared s added out new kept pairs h (expires moment ended left) = subst Counts (sym left) (expires_counts s moment h)
 change_counts law shared s added out new kept pairs h (ends ended left) = subst Counts (sym left) (record { conn = λ c k e. absurd (none_some e); stream = λ n x e. absurd (none_some e) })
 
 pub run_counts : {token : Option (List ℕ)} {shared : Bool} {events : List Event} {entries : List (List Entry)} {outs : List Outs} {s : State} → ClosesAlone → Run token shared events entries outs s → Counts s

@@ -16,12 +16,13 @@ use Rattle.hrana_hub.specs.declared.events.Event.{Event}
 use Rattle.hrana_hub.specs.Maps.{Numbered, at, without}
 use Rattle.hrana_hub.specs.State.{Stream, State}
 use Rattle.hrana_hub.specs.Ended.{end_of, ends_of, all_ends}
+use Rattle.hrana_hub.specs.Moments.{is_due, expiries}
 use Rattle.hrana_hub.specs.Polled.{seen_of}
 use Rattle.hrana_hub.specs.Run.{RunFrom, start, more}
 use Rattle.hrana_hub.specs.Step.{counted}
 use Rattle.hrana_hub.specs.Stories.{BeganAt, AreVersions}
 use Rattle.hrana_hub.specs.Versions.{HasVersions, RunsHaveVersions}
-use Rattle.hrana_hub.proofs.Changes.{Change, rests, comes, marks, joins, asks_for, polls, falls, loses, ends, step_changes}
+use Rattle.hrana_hub.proofs.Changes.{Change, rests, comes, marks, joins, asks_for, polls, falls, loses, expires, ends, step_changes}
 
 -- ---- the units that an event begins
 
@@ -66,6 +67,10 @@ module _ (number next : ℕ) where
   end_begins why None = All-nil (BeginsAt number next)
   end_begins why (Some x) = undone_begins why x.task.session.state
 
+  due_begins : (moment : ℕ) (x : Stream) (due : Bool) → All (BeginsAt number next) (cond due (end_of undo.Expired (Some x)) [])
+  due_begins moment x true = end_begins undo.Expired (Some x)
+  due_begins moment x false = All-nil (BeginsAt number next)
+
   ends_begin : (why : Undo) (ns : List ℕ) (es : Numbered Stream) → All (BeginsAt number next) (ends_of why ns es)
   ends_begin why [] es = All-nil (BeginsAt number next)
   ends_begin why (n ∷ ns) es = All-append (BeginsAt number next) _ _ (end_begins why (at n es)) (ends_begin why ns (without n es))
@@ -73,6 +78,10 @@ module _ (number next : ℕ) where
   all_begin : (why : Undo) (es : Numbered Stream) → All (BeginsAt number next) (all_ends why es)
   all_begin why [] = All-nil (BeginsAt number next)
   all_begin why (e ∷ es) = All-append (BeginsAt number next) _ _ (end_begins why (Some e.1)) (all_begin why es)
+
+  expiries_begin : (moment : ℕ) (es : Numbered Stream) → All (BeginsAt number next) (expiries moment es)
+  expiries_begin moment [] = All-nil (BeginsAt number next)
+  expiries_begin moment (e ∷ es) = All-append (BeginsAt number next) _ _ (due_begins moment e.1 (is_due moment e.1)) (expiries_begin moment es)
 
 begins_ends : (s : State) (added ended : List Entry) (new : State) → added ≡ ended → new.next ≡ s.next → All (BeginsAt s.next new.next) ended → Begins s added new
 begins_ends s added ended new is same h = record { rises = omega (arith, same); units = subst (All (BeginsAt s.next new.next)) (sym is) h }
@@ -88,6 +97,7 @@ change_begins law shared s added out new (asks_for c text k stream n x id what w
 change_begins law shared s added out new (polls stream x k known waits heard p) = poll_begins s (seen_of p.by s) p.entry added new refl p.one (ap (λ (t : State). t.next) p.left) (law shared (seen_of p.by s) x.task p.entry p.result p.task p.polls)
 change_begins law shared s added out new (falls stream x k known heard p) = poll_begins s (seen_of p.by s) p.entry added new refl p.one (ap (λ (t : State). t.next) p.left) (law shared (seen_of p.by s) x.task p.entry p.result p.task p.polls)
 change_begins law shared s added out new (loses c k known ended left) = begins_ends s added _ new ended (ap (λ (t : State). t.next) left) (ends_begin s.next new.next undo.Lost k.streams s.streams)
+change_begins law shared s added out new (expires moment ended left) = begins_ends s added _ new ended (ap (λ (t : State). t.next) left) (expiries_begin s.next new.next moment s.streams)
 change_begins law shared s added out new (ends ended left) = begins_ends s added _ new ended (ap (λ (t : State). t.next) left) (all_begin s.next new.next undo.Stop s.streams)
 
 -- ---- what the versions of other units are makes no odds

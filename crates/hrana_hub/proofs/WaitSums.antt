@@ -4,7 +4,8 @@ use Rattle.std.specs.Ordering.{is_eq, match_ordering}
 use Rattle.std.specs.declared.cmp.Ordering.{Ordering}
 use Rattle.std.specs.declared.cmp.Ordering.TheVariants.{Less, Equal, Greater}
 use Rattle.std.specs.BTreeMap.{is_at}
-use Rattle.hrana_hub.specs.Maps.{Numbered, at, put, placed, without}
+use Rattle.hrana_hub.specs.Maps.{Numbered, at, put, placed, without, each}
+use Rattle.hrana_hub.specs.Moments.{is_due, expired, after}
 use Rattle.hrana_hub.specs.State.{Stream}
 use Rattle.hrana_hub.specs.Ended.{let_go}
 use Rattle.hrana_hub.specs.Laws.{waits_of}
@@ -49,6 +50,19 @@ sum_placed c n y (e ∷ es) f = by (nat_cmp n e.0) (sum_placed c n y es) f
     by Less later g = omega arith
     by Equal later g = absurd (none_some (sym g))
     by Greater later g = omega (arith, later g)
+
+-- streams that have become others with as many requests
+pub sum_each : (c : ℕ) (f : Stream → Stream) → ((x : Stream) → share c (f x) ≡ share c x) → (es : Numbered Stream) → waits_of c (each f es) ≡ waits_of c es
+sum_each c f same [] = refl
+sum_each c f same (e ∷ es) = omega (arith, same e.1, sum_each c f same es)
+
+-- what expires keeps its ids
+pub after_share : (c moment : ℕ) (x : Stream) → share c (after moment x) ≡ share c x
+after_share c moment x = by (is_due moment x)
+  where
+    by : (b : Bool) → share c (cond b (expired x) x) ≡ share c x
+    by true = refl
+    by false = refl
 
 -- where no stream is of the connection, none of its requests waits
 pub sum_none : (c : ℕ) (es : Numbered Stream) → Rises es → ((n : ℕ) (x : Stream) → at n es ≡ Some x → x.conn ≢ c) → waits_of c es ≡ 0
