@@ -17,6 +17,8 @@ use Rattle.stream_task.specs.Leads.{IsExplained, StandsExplained}
 use Rattle.hrana_hub.specs.Agrees.{HubStands}
 use Rattle.hrana_hub.specs.State.{Seen}
 use Rattle.hrana_hub.specs.Stories.{RepliesInOrder}
+use Rattle.hrana_hub.specs.State.{first_state}
+use Rattle.hrana_hub.specs.Versions.{RunsHaveVersions}
 use Rattle.hrana_serve.specs.Clauses.{WithJournal}
 use Rattle.hrana_serve.specs.Notes.{AddsNoted, with_entries}
 use Rattle.hrana_serve.specs.Outcome.{Outcome, IsEarly, LeavesBy}
@@ -107,9 +109,9 @@ module _ {X D J O : Type 0} {told shared : Bool} {m : Meaning D BoundStmt Answer
   pub answered_is_journaled : WithJournal (noted journal) (noted journal') unsaved (λ entries. IfSome left (λ script. HasAnswered token shared (lines_of script) count unsaved (written sink) (written sink') entries))
   answered_is_journaled = by_script (λ entries script. HasAnswered token shared (lines_of script) count unsaved (written sink) (written sink') entries) (λ script r. record { story = r.story; is_story = r.is_story; answers = r.answers })
 
-  pub replies_in_order : RepliesInOrder → WithJournal (noted journal) (noted journal') unsaved (λ entries. IfSome left (λ script. HasReplies token shared (lines_of script) count entries))
-  replies_in_order law = by_script (λ entries script. HasReplies token shared (lines_of script) count entries)
-      (λ script r. record { story = r.story; is_story = r.is_story; in_order = λ had versions n. law token shared r.story.events r.story.entries r.story.outs r.story.state r.is_story.run had versions n })
+  pub replies_in_order : RepliesInOrder → RunsHaveVersions → WithJournal (noted journal) (noted journal') unsaved (λ entries. IfSome left (λ script. HasReplies token shared (lines_of script) count entries))
+  replies_in_order law versions = by_script (λ entries script. HasReplies token shared (lines_of script) count entries)
+      (λ script r. record { story = r.story; is_story = r.is_story; versions = versions token shared first_state r.story.events r.story.entries r.story.outs r.story.state r.is_story.run; in_order = λ had are n. law token shared r.story.events r.story.entries r.story.outs r.story.state r.is_story.run had are n })
 
   -- the line that the run stopped at
   bad_line : (number : ℕ) (script : List ℕ) → end ≡ status.BadScript number → Replayed token shared (lines_of script) end count unsaved (written sink) (written sink') (o.taken ++ unsaved) → IsFirstBad token shared (lines_of script) number count (o.taken ++ unsaved)

@@ -11,6 +11,7 @@ use Rattle.hrana_hub.specs.Run.{Run}
 use Rattle.hrana_hub.specs.State.{State}
 use Rattle.hrana_hub.specs.Stories as streams
 use Rattle.hrana_hub.specs.Step.{Step, fits}
+use Rattle.hrana_hub.specs.Versions.{HasVersions}
 use Rattle.hrana_serve.specs.Script.{ReadsAs}
 use Rattle.hrana_serve.specs.Replay.{join, StopsAs, StopsAt, WritesAs, AnswersNoted}
 
@@ -63,9 +64,10 @@ pub record Replayed (token : Option (List ℕ)) (shared : Bool) (all : List (Lis
   pub writes : WritesAs end story.outs held holds
   pub answers : AnswersNoted story.entries story.outs story.ended unsaved held holds
 
--- There is one in which the replies of each stream are those of its requests, in their order, whichever numbers `had` says that the
--- units' versions are, where they are those of the run.
+-- There is one in which the replies of each stream are those of its requests, in their order, by the versions at which its units
+-- began: it has such versions, and they are the run's whichever function `had` tells them.
 pub record HasReplies (token : Option (List ℕ)) (shared : Bool) (all : List (List ℕ)) (count : ℕ) (J : List Entry) : Type 0 where
   pub story : Story
   pub is_story : IsStoryOf token shared all count J story
+  pub versions : HasVersions is_story.run
   pub in_order : (had : ℕ → ℕ) → streams.AreVersions had is_story.run → (n : ℕ) → streams.InOrder shared had (streams.story n is_story.run) story.state n

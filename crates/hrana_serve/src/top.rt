@@ -21,7 +21,9 @@ use crate::words::replay_token;
 use engine_core::{
     Engine, Entry, Journal, MAX_INPUT_BYTES, ReadAllFail, Sink, Source, Status, read_all,
 };
-use hrana_hub::{Hub, a_new_hub_agrees, replies_follow_requests, the_dead_add_nothing};
+use hrana_hub::{
+    Hub, a_new_hub_agrees, replies_follow_requests, runs_have_versions, the_dead_add_nothing,
+};
 use hrana_value::{NoMemory, Txt};
 use std::alloc::Global;
 use stream_task::{batches_are_meant, journal_says_what_stands, streams_stand_at_first};
@@ -227,6 +229,7 @@ pub fn hrana<I: Source, O: Sink, E: Engine, J: Journal>(
     ensures engine_faults { WithJournal (J.noted world.old.journal) (J.noted world.new.journal) result.unsaved.items (λ entries. RoseBy (fault_count entries) (E.faults world.old.engine) (E.faults world.new.engine)) }
 {
     replies_follow_requests();
+    runs_have_versions();
     batches_are_meant();
     the_dead_add_nothing();
     answer(alloc, words, world)

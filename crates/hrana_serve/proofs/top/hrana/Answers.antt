@@ -24,4 +24,4 @@ pub returns-clause-engine_faults : goal.returns-clause-engine_faults
 returns-clause-engine_faults g c = engine_faults c.answer.ensures.outcome
 
 pub returns-clause-replies_in_order : goal.returns-clause-replies_in_order
-returns-clause-replies_in_order g c = replies_in_order c.answer.ensures.outcome c.replies_follow_requests.ensures
+returns-clause-replies_in_order g c = replies_in_order c.answer.ensures.outcome c.replies_follow_requests.ensures c.runs_have_versions.ensures
