@@ -1,12 +1,13 @@
 // Batches and their results, as texts and as runs.
 ghost use Rattle.std.specs.Prelude.{◌<◌, length, OnSome};
 
+use crate::tables::{Told, are_declined, come_back};
 use hrana_batch::{
     Batch, BatchResult, BatchRun, Next, Outcome, batch_of_json, batch_result_of_json,
     batch_result_to_json, batch_to_json,
 };
 use hrana_stmt::{Code, Cols, Rows, SqlRef, StmtResult, wire_error};
-use hrana_value::{Decline, NoMemory, ReadFail};
+use hrana_value::{Decline, NoMemory, ReadFail, Txt};
 use serde_json::Value as Json;
 use std::alloc::Global;
 
@@ -21,6 +22,31 @@ fn given(alloc: Global, text: &str) -> Result<BatchResult, ReadFail> {
     match Json::from_str(alloc, text) {
         Ok(json) => batch_result_of_json(alloc, &json),
         Err(_) => Err(ReadFail::NoMemory),
+    }
+}
+
+fn text_of(alloc: Global, json: &Json) -> Result<Txt, ReadFail> {
+    match json.to_string(alloc) {
+        Ok(text) => Ok(Txt::from_string(text)),
+        Err(_) => Err(ReadFail::NoMemory),
+    }
+}
+
+struct BatchTexts;
+
+impl Told<ReadFail> for BatchTexts {
+    fn told(alloc: Global, text: &str) -> Result<Txt, ReadFail> {
+        let batch = batch(alloc, text)?;
+        text_of(alloc, &batch_to_json(alloc, &batch)?)
+    }
+}
+
+struct ResultTexts;
+
+impl Told<ReadFail> for ResultTexts {
+    fn told(alloc: Global, text: &str) -> Result<Txt, ReadFail> {
+        let given = given(alloc, text)?;
+        text_of(alloc, &batch_result_to_json(alloc, &given)?)
     }
 }
 
@@ -56,7 +82,7 @@ fn many_steps(alloc: Global, steps: usize) -> Result<String, NoMemory> {
 // The first kind of decline is told, wherever it stands, also in an item before one that can be read.
 #[test]
 fn batches_are_declined(rt: HostRuntime) {
-    let cases = [
+    are_declined::<BatchTexts>(&rt, rt.alloc(), &[
         ("5", Decline::Shape),
         ("{}", Decline::Shape),
         (r#"{"steps":{}}"#, Decline::Shape),
@@ -77,13 +103,27 @@ fn batches_are_declined(rt: HostRuntime) {
             r#"{"steps":[{"stmt":{"sql":"","args":[{"type":"float"}]}},{"condition":{"type":"ok","step":-1},"stmt":{"sql":""}}]}"#,
             Decline::Range,
         ),
-    ];
-    for (text, want) in cases {
-        match batch(rt.alloc(), text) {
-            Ok(_) => assert!(rt; false, "at {text}"),
-            Err(fail) => assert_eq!(rt; fail, ReadFail::Declined(want), "at {text}"),
-        }
+    ]);
+}
+
+// How this text of a batch is declined, if it is; nothing where it fails otherwise.
+fn decline_of(alloc: Global, text: &str) -> Option<Option<Decline>> {
+    match batch(alloc, text) {
+        Ok(_) => Some(None),
+        Err(ReadFail::Declined(decline)) => Some(Some(decline)),
+        Err(_) => None,
     }
+}
+
+fn condition_declined(alloc: Global, nots: usize, inner: &str) -> Option<Option<Decline>> {
+    let condition = negated(alloc, nots, inner).ok()?;
+    let text = with_condition(alloc, condition.as_str()).ok()?;
+    decline_of(alloc, text.as_str())
+}
+
+fn steps_declined(alloc: Global, steps: usize) -> Option<Option<Decline>> {
+    let text = many_steps(alloc, steps).ok()?;
+    decline_of(alloc, text.as_str())
 }
 
 // A condition is at most 32 deep. What is declined in a deep one is told before its depth.
@@ -124,76 +164,39 @@ fn conditions_are_declined(rt: HostRuntime) {
         (32, r#"{"type":"ok","step":0}"#, Some(Decline::BadStep)),
         (32, r#"{"type":"xor"}"#, Some(Decline::Shape)),
     ];
-    let alloc = rt.alloc();
     for (nots, inner, want) in cases {
-        let condition = negated(alloc, nots, inner).expect(&rt, "there is memory");
-        let text = with_condition(alloc, condition.as_str()).expect(&rt, "there is memory");
-        match (batch(alloc, text.as_str()), want) {
-            (Ok(_), None) => {}
-            (Err(fail), Some(want)) => assert_eq!(rt; fail, ReadFail::Declined(want), "at {inner}"),
-            _ => assert!(rt; false, "at {inner} in {nots}"),
-        }
+        assert!(rt; condition_declined(rt.alloc(), nots, inner) == Some(want), "at {inner} in {nots}");
     }
 }
 
 #[test]
 fn a_batch_has_at_most_256_steps(rt: HostRuntime) {
     let alloc = rt.alloc();
-    for (steps, fits) in [(256, true), (257, false)] {
-        let text = many_steps(alloc, steps).expect(&rt, "there is memory");
-        match batch(alloc, text.as_str()) {
-            Ok(_) => assert!(rt; fits),
-            Err(fail) => {
-                assert!(rt; !fits);
-                assert_eq!(rt; fail, ReadFail::Declined(Decline::Range));
-            }
-        }
-    }
+    assert!(rt; steps_declined(alloc, 256) == Some(None));
+    assert!(rt; steps_declined(alloc, 257) == Some(Some(Decline::Range)));
 }
 
 #[test]
 fn batches_come_back(rt: HostRuntime) {
-    let texts = [
+    come_back::<ReadFail, BatchTexts>(&rt, rt.alloc(), &[
         r#"{"steps":[]}"#,
         r#"{"steps":[{"stmt":{"sql":"A"}},{"condition":{"cond":{"step":0,"type":"ok"},"type":"not"},"stmt":{"sql":"B"}}]}"#,
         r#"{"steps":[{"stmt":{"sql":"A"}},{"condition":{"conds":[{"conds":[],"type":"or"},{"step":0,"type":"error"},{"type":"is_autocommit"}],"type":"and"},"stmt":{"sql_id":1}}]}"#,
-    ];
-    let alloc = rt.alloc();
-    for text in texts {
-        match batch(alloc, text) {
-            Ok(batch) => {
-                let json = batch_to_json(alloc, &batch).expect(&rt, "there is memory");
-                let written = json.to_string(alloc).expect(&rt, "there is memory");
-                assert_eq!(rt; written.as_str(), text);
-            }
-            Err(_) => assert!(rt; false, "at {text}"),
-        }
-    }
+    ]);
 }
 
 #[test]
 fn results_of_batches_come_back(rt: HostRuntime) {
-    let texts = [
+    come_back::<ReadFail, ResultTexts>(&rt, rt.alloc(), &[
         r#"{"step_errors":[],"step_results":[]}"#,
         r#"{"step_errors":[null],"step_results":[null]}"#,
         r#"{"step_errors":[null,{"code":"CONSTRAINT","message":"primary key constraint failed"},null],"step_results":[{"affected_row_count":1,"cols":[],"last_insert_rowid":"1","rows":[]},null,null]}"#,
-    ];
-    let alloc = rt.alloc();
-    for text in texts {
-        match given(alloc, text) {
-            Ok(given) => {
-                let json = batch_result_to_json(alloc, &given).expect(&rt, "there is memory");
-                let written = json.to_string(alloc).expect(&rt, "there is memory");
-                assert_eq!(rt; written.as_str(), text);
-            }
-            Err(_) => assert!(rt; false, "at {text}"),
-        }
-    }
+    ]);
 }
 
 #[test]
 fn results_of_batches_are_declined(rt: HostRuntime) {
-    let cases = [
+    are_declined::<ResultTexts>(&rt, rt.alloc(), &[
         ("[]", Decline::Shape),
         (r#"{"step_results":[]}"#, Decline::Shape),
         (
@@ -216,13 +219,7 @@ fn results_of_batches_are_declined(rt: HostRuntime) {
             r#"{"step_errors":[null,null],"step_results":[{"affected_row_count":0,"cols":[],"rows":[[{"type":"float"}]]},{"affected_row_count":-1,"cols":[],"rows":[]}]}"#,
             Decline::Range,
         ),
-    ];
-    for (text, want) in cases {
-        match given(rt.alloc(), text) {
-            Ok(_) => assert!(rt; false, "at {text}"),
-            Err(fail) => assert_eq!(rt; fail, ReadFail::Declined(want), "at {text}"),
-        }
-    }
+    ]);
 }
 
 // What became of a step: `d` done, `f` failed, `s` skipped.
@@ -268,6 +265,32 @@ fn is_skipped(run: &BatchRun, auto: bool) -> Option<bool>
     }
 }
 
+// Takes down this outcome of the next step, where there is one: whether the step is skipped as the outcome says.
+fn step_comes(run: &mut BatchRun, alloc: Global, auto: bool, want: char) -> bool {
+    let Ok(outcome) = outcome(alloc, want) else {
+        return false;
+    };
+    match is_skipped(run, auto) {
+        Some(skipped) => {
+            run.note(outcome);
+            skipped == (want == 's')
+        }
+        None => false,
+    }
+}
+
+fn runs(alloc: Global, text: &str, autos: &str, wants: &str) -> bool {
+    let Ok(mut run) = started(alloc, text) else {
+        return false;
+    };
+    for (auto, want) in autos.chars().zip(wants.chars()) {
+        if !step_comes(&mut run, alloc, auto == 'a', want) {
+            return false;
+        }
+    }
+    matches!(run.next(true), Next::Finished)
+}
+
 // The flags are whether the session is in autocommit at the turn of each step.
 #[test]
 fn batches_are_run_as_their_conditions_say(rt: HostRuntime) {
@@ -293,53 +316,48 @@ fn batches_are_run_as_their_conditions_say(rt: HostRuntime) {
             "dss",
         ),
     ];
-    let alloc = rt.alloc();
     for (text, autos, wants) in cases {
-        match started(alloc, text) {
-            Ok(mut run) => {
-                for (auto, want) in autos.chars().zip(wants.chars()) {
-                    match is_skipped(&run, auto == 'a') {
-                        Some(skipped) => {
-                            assert_eq!(rt; skipped, want == 's', "at {text}");
-                            run.note(outcome(alloc, want).expect(&rt, "there is memory"));
-                        }
-                        None => assert!(rt; false, "at {text}"),
-                    }
-                }
-                assert!(rt; matches!(run.next(true), Next::Finished), "at {text}");
-            }
-            Err(_) => assert!(rt; false, "at {text}"),
-        }
+        assert!(rt; runs(rt.alloc(), text, autos, wants), "at {text}");
     }
+}
+
+fn is_next(run: &BatchRun, text: &str) -> bool {
+    match run.next(true) {
+        Next::Run(stmt) => match &stmt.sql {
+            SqlRef::Text(sql) => sql.as_str() == text,
+            SqlRef::Id(_) => false,
+        },
+        _ => false,
+    }
+}
+
+fn is_one(given: &BatchResult, want: char) -> bool {
+    match given.outcomes.as_slice() {
+        [outcome] => letter(outcome) == want,
+        _ => false,
+    }
+}
+
+// Whether the run is finished, and this is its only outcome.
+fn gives_one(run: BatchRun, want: char) -> bool {
+    match run.next(true) {
+        Next::Finished => is_one(&run.into_result(), want),
+        _ => false,
+    }
+}
+
+fn gives_its_outcome(alloc: Global) -> bool {
+    let Ok(mut run) = started(alloc, r#"{"steps":[{"stmt":{"sql":"BEGIN"}}]}"#) else {
+        return false;
+    };
+    if !is_next(&run, "BEGIN") || !step_comes(&mut run, alloc, true, 'f') {
+        return false;
+    }
+    gives_one(run, 'f')
 }
 
 // The statement of the step is lent, and the outcomes that were told are the result.
 #[test]
 fn a_run_gives_its_outcomes(rt: HostRuntime) {
-    let alloc = rt.alloc();
-    let Ok(mut run) = started(alloc, r#"{"steps":[{"stmt":{"sql":"BEGIN"}}]}"#) else {
-        assert!(rt; false);
-        return;
-    };
-    match run.next(true) {
-        Next::Run(stmt) => match &stmt.sql {
-            SqlRef::Text(sql) => assert_eq!(rt; sql.as_str(), "BEGIN"),
-            SqlRef::Id(_) => assert!(rt; false),
-        },
-        _ => assert!(rt; false),
-    }
-    match is_skipped(&run, true) {
-        Some(_) => run.note(outcome(alloc, 'f').expect(&rt, "there is memory")),
-        None => assert!(rt; false),
-    }
-    match run.next(true) {
-        Next::Finished => {
-            let told = run.into_result();
-            assert_eq!(rt; told.outcomes.as_slice().len(), 1);
-            for outcome in told.outcomes.as_slice() {
-                assert_eq!(rt; letter(outcome), 'f');
-            }
-        }
-        _ => assert!(rt; false),
-    }
+    assert!(rt; gives_its_outcome(rt.alloc()));
 }

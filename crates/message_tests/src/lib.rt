@@ -18,6 +18,8 @@ mod sql_texts;
 #[cfg(test)]
 mod statements;
 #[cfg(test)]
+mod tables;
+#[cfg(test)]
 mod values;
 #[cfg(test)]
 mod wire;

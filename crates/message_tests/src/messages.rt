@@ -1,9 +1,10 @@
 // The messages of a client and of the server: texts by the tables of the protocol.
+use crate::tables::{Told, are_refused, are_told, come_back};
 use hrana_value::{Decline, NoMemory, Txt};
 use std::alloc::Global;
 use ws_messages::{MsgFail, Why, decode_client, decode_server, encode_client, encode_server};
 
-// The message of a client that a text is, written again.
+// The message of a client that these bytes are, written again.
 fn client(alloc: Global, bytes: &[u8]) -> Result<Txt, MsgFail> {
     let msg = decode_client(alloc, bytes)?;
     if !msg.has_form() {
@@ -26,16 +27,85 @@ fn server(alloc: Global, bytes: &[u8]) -> Result<Txt, MsgFail> {
     }
 }
 
+// What stands between the first text and the last, or the whole where it doesn't stand between them.
+fn between<'a>(text: &'a str, first: &str, last: &str) -> &'a str {
+    let Some(rest) = text.strip_prefix(first) else {
+        return text;
+    };
+    match rest.strip_suffix(last) {
+        Some(part) => part,
+        None => text,
+    }
+}
+
+const REQUEST: &str = "{\"request\":";
+
+const REQUEST_END: &str = ",\"request_id\":1,\"type\":\"request\"}";
+
+const RESPONSE: &str = "{\"request_id\":1,\"response\":";
+
+const RESPONSE_END: &str = ",\"type\":\"response_ok\"}";
+
+// The request of message 1, and the message written again.
+fn request(alloc: Global, text: &str) -> Result<Txt, MsgFail> {
+    match format!(in alloc; "{REQUEST}{text}{REQUEST_END}") {
+        Ok(message) => client(alloc, message.as_bytes()),
+        Err(_) => Err(MsgFail::NoMemory),
+    }
+}
+
+fn response(alloc: Global, text: &str) -> Result<Txt, MsgFail> {
+    match format!(in alloc; "{RESPONSE}{text}{RESPONSE_END}") {
+        Ok(message) => server(alloc, message.as_bytes()),
+        Err(_) => Err(MsgFail::NoMemory),
+    }
+}
+
+// The part of a message that stands between these texts.
+fn part(alloc: Global, message: &Txt, first: &str, last: &str) -> Result<Txt, MsgFail> {
+    match Txt::new(alloc, between(message.as_str(), first, last)) {
+        Ok(part) => Ok(part),
+        Err(_) => Err(MsgFail::NoMemory),
+    }
+}
+
+struct ClientTexts;
+
+impl Told<MsgFail> for ClientTexts {
+    fn told(alloc: Global, text: &str) -> Result<Txt, MsgFail> {
+        client(alloc, text.as_bytes())
+    }
+}
+
+struct RequestTexts;
+
+impl Told<MsgFail> for RequestTexts {
+    fn told(alloc: Global, text: &str) -> Result<Txt, MsgFail> {
+        part(alloc, &request(alloc, text)?, REQUEST, REQUEST_END)
+    }
+}
+
+struct ServerTexts;
+
+impl Told<MsgFail> for ServerTexts {
+    fn told(alloc: Global, text: &str) -> Result<Txt, MsgFail> {
+        server(alloc, text.as_bytes())
+    }
+}
+
+struct ResponseTexts;
+
+impl Told<MsgFail> for ResponseTexts {
+    fn told(alloc: Global, text: &str) -> Result<Txt, MsgFail> {
+        part(alloc, &response(alloc, text)?, RESPONSE, RESPONSE_END)
+    }
+}
+
 fn declined(decline: Decline) -> MsgFail {
     MsgFail::Declined {
         request_id: 1,
         decline,
     }
-}
-
-// The text of a message with number 1 whose part of this name is this.
-fn numbered(alloc: Global, kind: &str, name: &str, part: &str) -> Result<String, NoMemory> {
-    Ok(format!(in alloc; "{{\"{name}\":{part},\"request_id\":1,\"type\":\"{kind}\"}}")?)
 }
 
 // A text between others that come so many times.
@@ -60,7 +130,7 @@ fn around(
 // A text of each kind of request, as it is written.
 #[test]
 fn requests_come_back(rt: HostRuntime) {
-    let requests = [
+    come_back::<MsgFail, RequestTexts>(&rt, rt.alloc(), &[
         r#"{"stream_id":-2147483648,"type":"open_stream"}"#,
         r#"{"stream_id":2147483647,"type":"close_stream"}"#,
         r#"{"stmt":{"args":[{"type":"null"},{"type":"integer","value":"-5"},{"type":"text","value":"é\n"},{"base64":"AQ==","type":"blob"}],"named_args":[{"name":":a","value":{"type":"null"}}],"sql":"a","want_rows":false},"stream_id":1,"type":"execute"}"#,
@@ -74,21 +144,13 @@ fn requests_come_back(rt: HostRuntime) {
         r#"{"sql":"","sql_id":8,"type":"store_sql"}"#,
         r#"{"sql_id":7,"type":"close_sql"}"#,
         r#"{"stream_id":1,"type":"get_autocommit"}"#,
-    ];
-    let alloc = rt.alloc();
-    for request in requests {
-        let text = numbered(alloc, "request", "request", request).expect(&rt, "there is memory");
-        match client(alloc, text.as_bytes()) {
-            Ok(told) => assert_eq!(rt; told.as_str(), text.as_str()),
-            Err(_) => assert!(rt; false, "at {request}"),
-        }
-    }
+    ]);
 }
 
 // Members in any order, others between them, null for what is absent, and of two members of one name the later.
 #[test]
 fn other_texts_of_a_client_are_read(rt: HostRuntime) {
-    let cases = [
+    are_told::<MsgFail, ClientTexts>(&rt, rt.alloc(), &[
         (r#"{"type":"hello"}"#, r#"{"jwt":null,"type":"hello"}"#),
         (
             r#" {"type" : "hello","x":[1.5], "jwt":"t\u00e9\n"} "#,
@@ -102,12 +164,13 @@ fn other_texts_of_a_client_are_read(rt: HostRuntime) {
             r#"{"type":"request","request_id":1,"request":{"type":"batch","sql":5,"stream_id":1,"batch":{"steps":[{"stmt":{"sql":"a","args":[]},"condition":null}]}}}"#,
             r#"{"request":{"batch":{"steps":[{"stmt":{"sql":"a"}}]},"stream_id":1,"type":"batch"},"request_id":1,"type":"request"}"#,
         ),
-    ];
-    for (text, want) in cases {
-        match client(rt.alloc(), text.as_bytes()) {
-            Ok(told) => assert_eq!(rt; told.as_str(), want, "at {text}"),
-            Err(_) => assert!(rt; false, "at {text}"),
-        }
+    ]);
+}
+
+fn violates(alloc: Global, bytes: &[u8], why: Why) -> bool {
+    match client(alloc, bytes) {
+        Ok(_) => false,
+        Err(fail) => fail == MsgFail::Violation(why),
     }
 }
 
@@ -151,10 +214,14 @@ fn violations_of_a_client_are_told(rt: HostRuntime) {
         ),
     ];
     for (index, (text, want)) in cases.iter().enumerate() {
-        match client(rt.alloc(), text) {
-            Ok(_) => assert!(rt; false, "at {index}"),
-            Err(fail) => assert_eq!(rt; fail, MsgFail::Violation(*want), "at {index}"),
-        }
+        assert!(rt; violates(rt.alloc(), text, *want), "at {index}");
+    }
+}
+
+fn declines(alloc: Global, text: &str, decline: Decline) -> bool {
+    match request(alloc, text) {
+        Ok(_) => false,
+        Err(fail) => fail == declined(decline),
     }
 }
 
@@ -238,66 +305,65 @@ fn requests_are_declined(rt: HostRuntime) {
             Decline::Shape,
         ),
     ];
-    let alloc = rt.alloc();
     for (request, want) in cases {
-        let text = numbered(alloc, "request", "request", request).expect(&rt, "there is memory");
-        match client(alloc, text.as_bytes()) {
-            Ok(_) => assert!(rt; false, "at {request}"),
-            Err(fail) => assert_eq!(rt; fail, declined(want), "at {request}"),
-        }
+        assert!(rt; declines(rt.alloc(), request, want), "at {request}");
     }
+}
+
+// Whether a text is a message of a client; nothing where it fails in another way than this.
+fn fits(alloc: Global, text: &str, otherwise: MsgFail) -> Option<bool> {
+    match client(alloc, text.as_bytes()) {
+        Ok(_) => Some(true),
+        Err(fail) if fail == otherwise => Some(false),
+        Err(_) => None,
+    }
+}
+
+fn nested_fits(alloc: Global, levels: u32) -> Option<bool> {
+    let inner = around(alloc, levels, "[", "", "]").ok()?;
+    let text = format!(in alloc; "{{\"type\":\"hello\",\"x\":{inner}}}").ok()?;
+    fits(alloc, text.as_str(), MsgFail::Violation(Why::NotJson))
+}
+
+fn sql_fits(alloc: Global, members: &str, pairs: u32) -> Option<bool> {
+    let sql = around(alloc, pairs, "a", "", "b").ok()?;
+    let text = format!(in alloc;
+        "{REQUEST}{{\"type\":{members},\"sql\":\"{sql}\"}}{REQUEST_END}"
+    ).ok()?;
+    fits(alloc, text.as_str(), declined(Decline::Range))
+}
+
+fn repeated_fits(alloc: Global, part: &str) -> Option<bool> {
+    let text = around(alloc, 262144, part, "", "").ok()?;
+    fits(alloc, text.as_str(), MsgFail::Violation(Why::NotJson))
 }
 
 #[test]
 fn limits_of_messages_are_kept(rt: HostRuntime) {
     let alloc = rt.alloc();
-    for (levels, fits) in [(126, true), (127, false)] {
-        let inner = around(alloc, levels, "[", "", "]").expect(&rt, "there is memory");
-        let text = format!(in alloc; "{{\"type\":\"hello\",\"x\":{inner}}}").expect(
-            &rt,
-            "there is memory",
-        );
-        match client(alloc, text.as_bytes()) {
-            Ok(_) => assert!(rt; fits),
-            Err(fail) => {
-                assert!(rt; !fits);
-                assert_eq!(rt; fail, MsgFail::Violation(Why::NotJson));
-            }
-        }
-    }
-    for (pairs, fits) in [(32768, true), (32769, false)] {
-        let sql = around(alloc, pairs, "a", "", "b").expect(&rt, "there is memory");
-        for members in ["\"store_sql\",\"sql_id\":1", "\"sequence\",\"stream_id\":1"] {
-            let request = format!(in alloc; "{{\"type\":{members},\"sql\":\"{sql}\"}}").expect(
-                &rt,
-                "there is memory",
-            );
-            let text = numbered(alloc, "request", "request", request.as_str()).expect(
-                &rt,
-                "there is memory",
-            );
-            match client(alloc, text.as_bytes()) {
-                Ok(_) => assert!(rt; fits),
-                Err(fail) => {
-                    assert!(rt; !fits);
-                    assert_eq!(rt; fail, declined(Decline::Range));
-                }
-            }
-        }
-    }
+    assert!(rt; nested_fits(alloc, 126) == Some(true));
+    assert!(rt; nested_fits(alloc, 127) == Some(false));
     for part in ["[", "\"", "{", "\\"] {
-        let text = around(alloc, 262144, part, "", "").expect(&rt, "there is memory");
-        match client(alloc, text.as_bytes()) {
-            Ok(_) => assert!(rt; false, "at {part}"),
-            Err(fail) => assert_eq!(rt; fail, MsgFail::Violation(Why::NotJson), "at {part}"),
-        }
+        assert!(rt; repeated_fits(alloc, part) == Some(false), "at {part}");
+    }
+}
+
+#[test]
+fn limits_of_sql_are_kept(rt: HostRuntime) {
+    for (members, pairs, want) in [
+        ("\"store_sql\",\"sql_id\":1", 32768, true),
+        ("\"sequence\",\"stream_id\":1", 32768, true),
+        ("\"store_sql\",\"sql_id\":1", 32769, false),
+        ("\"sequence\",\"stream_id\":1", 32769, false),
+    ] {
+        assert!(rt; sql_fits(rt.alloc(), members, pairs) == Some(want), "at {members}");
     }
 }
 
 // A text of each kind of response, as it is written.
 #[test]
 fn responses_come_back(rt: HostRuntime) {
-    let responses = [
+    come_back::<MsgFail, ResponseTexts>(&rt, rt.alloc(), &[
         r#"{"type":"open_stream"}"#,
         r#"{"type":"close_stream"}"#,
         r#"{"result":{"affected_row_count":18446744073709551615,"cols":[{"name":"a"},{"name":null}],"last_insert_rowid":"-1","rows":[[],[{"type":"null"}]]},"type":"execute"}"#,
@@ -309,22 +375,12 @@ fn responses_come_back(rt: HostRuntime) {
         r#"{"type":"store_sql"}"#,
         r#"{"type":"close_sql"}"#,
         r#"{"is_autocommit":false,"type":"get_autocommit"}"#,
-    ];
-    let alloc = rt.alloc();
-    for response in responses {
-        let text = format!(in alloc;
-            "{{\"request_id\":1,\"response\":{response},\"type\":\"response_ok\"}}"
-        ).expect(&rt, "there is memory");
-        match server(alloc, text.as_bytes()) {
-            Ok(told) => assert_eq!(rt; told.as_str(), text.as_str()),
-            Err(_) => assert!(rt; false, "at {response}"),
-        }
-    }
+    ]);
 }
 
 #[test]
 fn other_texts_of_the_server_are_read(rt: HostRuntime) {
-    let cases = [
+    are_told::<MsgFail, ServerTexts>(&rt, rt.alloc(), &[
         (r#"{"type":"hello_ok","x":1}"#, r#"{"type":"hello_ok"}"#),
         (
             r#"{"type":"hello_error","error":{"message":"m"}}"#,
@@ -338,19 +394,13 @@ fn other_texts_of_the_server_are_read(rt: HostRuntime) {
             r#"{"type":"response_ok","request_id":1,"response":{"type":"batch","result":{"step_results":[null,null],"step_errors":[null,{"message":"m"}]}}}"#,
             r#"{"request_id":1,"response":{"result":{"step_errors":[null,{"code":null,"message":"m"}],"step_results":[null,null]},"type":"batch"},"type":"response_ok"}"#,
         ),
-    ];
-    for (text, want) in cases {
-        match server(rt.alloc(), text.as_bytes()) {
-            Ok(told) => assert_eq!(rt; told.as_str(), want, "at {text}"),
-            Err(_) => assert!(rt; false, "at {text}"),
-        }
-    }
+    ]);
 }
 
 #[test]
 fn texts_of_a_server_are_refused(rt: HostRuntime) {
     let bad = MsgFail::Violation(Why::BadReply);
-    let cases = [
+    are_refused::<MsgFail, ServerTexts>(&rt, rt.alloc(), &[
         (r#"{"#, MsgFail::Violation(Why::NotJson)),
         (r#"[]"#, MsgFail::Violation(Why::NotObject)),
         (r#"{}"#, MsgFail::Violation(Why::NoKind)),
@@ -369,13 +419,7 @@ fn texts_of_a_server_are_refused(rt: HostRuntime) {
         (r#"{"type":"hello_error"}"#, bad),
         (r#"{"type":"hello_error","error":{"message":1}}"#, bad),
         (r#"{"type":"response_error","request_id":1}"#, bad),
-    ];
-    for (text, want) in cases {
-        match server(rt.alloc(), text.as_bytes()) {
-            Ok(_) => assert!(rt; false, "at {text}"),
-            Err(fail) => assert_eq!(rt; fail, want, "at {text}"),
-        }
-    }
+    ]);
 }
 
 // A float is declined where nothing else is wrong, also in an item before one that can be read.
@@ -383,7 +427,7 @@ fn texts_of_a_server_are_refused(rt: HostRuntime) {
 fn responses_are_refused(rt: HostRuntime) {
     let bad = MsgFail::Violation(Why::BadReply);
     let float = declined(Decline::Float);
-    let cases = [
+    are_refused::<MsgFail, ResponseTexts>(&rt, rt.alloc(), &[
         (r#"{}"#, bad),
         (r#"{"type":"describe"}"#, bad),
         (r#"{"type":"get_autocommit","is_autocommit":0}"#, bad),
@@ -415,16 +459,5 @@ fn responses_are_refused(rt: HostRuntime) {
             r#"{"type":"fetch_cursor","done":false,"entries":[{"type":"rows"}]}"#,
             bad,
         ),
-    ];
-    let alloc = rt.alloc();
-    for (response, want) in cases {
-        let text = numbered(alloc, "response_ok", "response", response).expect(
-            &rt,
-            "there is memory",
-        );
-        match server(alloc, text.as_bytes()) {
-            Ok(_) => assert!(rt; false, "at {response}"),
-            Err(fail) => assert_eq!(rt; fail, want, "at {response}"),
-        }
-    }
+    ]);
 }

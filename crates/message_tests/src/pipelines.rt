@@ -1,4 +1,5 @@
 // Bodies and answers of pipelines: texts by the tables of the protocol.
+use crate::tables::{Told, are_refused, are_told, come_back};
 use hrana_value::{Decline, NoMemory, Txt};
 use pipeline_body::{
     BodyFail, MAX_PIPELINE_ASKS, PipeAsk, PipelineAnswer, Replies, decode_pipeline,
@@ -27,6 +28,22 @@ fn answer(alloc: Global, bytes: &[u8]) -> Result<Txt, BodyFail> {
     match encode_pipeline_answer(alloc, &answer) {
         Ok(text) => Ok(text),
         Err(_) => Err(BodyFail::NoMemory),
+    }
+}
+
+struct BodyTexts;
+
+impl Told<BodyFail> for BodyTexts {
+    fn told(alloc: Global, text: &str) -> Result<Txt, BodyFail> {
+        body(alloc, text.as_bytes())
+    }
+}
+
+struct AnswerTexts;
+
+impl Told<BodyFail> for AnswerTexts {
+    fn told(alloc: Global, text: &str) -> Result<Txt, BodyFail> {
+        answer(alloc, text.as_bytes())
     }
 }
 
@@ -59,26 +76,20 @@ fn many(alloc: Global, start: &str, count: usize) -> Result<String, NoMemory> {
 // A text of each kind of request, as it is written.
 #[test]
 fn bodies_come_back(rt: HostRuntime) {
-    let bodies = [
+    come_back::<BodyFail, BodyTexts>(&rt, rt.alloc(), &[
         r#"{"baton":null,"requests":[{"type":"get_autocommit"}]}"#,
         r#"{"baton":"AAAAAAAAAAEAAAAAAAAAAAAAAAAAAAAA","requests":[{"type":"get_autocommit"}]}"#,
         r#"{"baton":null,"requests":[]}"#,
         r#"{"baton":null,"requests":[{"stmt":{"sql":"CREATE TABLE t (a)"},"type":"execute"}]}"#,
         r#"{"baton":"é\n","requests":[{"stmt":{"sql":"INSERT INTO t VALUES (1)"},"type":"execute"},{"stmt":{"sql_id":-1},"type":"execute"}]}"#,
         r#"{"baton":"","requests":[{"batch":{"steps":[{"stmt":{"sql":"a"}},{"condition":{"step":0,"type":"ok"},"stmt":{"sql":"b"}}]},"type":"batch"},{"sql":"a;b","type":"sequence"},{"sql_id":8,"type":"sequence"},{"sql":"a","sql_id":2147483647,"type":"store_sql"},{"sql_id":-2147483648,"type":"close_sql"},{"type":"close"},{"type":"get_autocommit"}]}"#,
-    ];
-    for text in bodies {
-        match body(rt.alloc(), text.as_bytes()) {
-            Ok(told) => assert_eq!(rt; told.as_str(), text),
-            Err(_) => assert!(rt; false, "at {text}"),
-        }
-    }
+    ]);
 }
 
 // Members in any order, others between them, null for what is absent, and of two members of one name the later.
 #[test]
 fn other_bodies_are_read(rt: HostRuntime) {
-    let cases = [
+    are_told::<BodyFail, BodyTexts>(&rt, rt.alloc(), &[
         (
             r#"{"requests":[{"type":"sequence","sql":"CREATE TABLE t (a); INSERT INTO t VALUES (1), (2), (3)"},{"type":"close"}]}"#,
             r#"{"baton":null,"requests":[{"sql":"CREATE TABLE t (a); INSERT INTO t VALUES (1), (2), (3)","type":"sequence"},{"type":"close"}]}"#,
@@ -87,13 +98,7 @@ fn other_bodies_are_read(rt: HostRuntime) {
             r#" {"x":1.5,"requests":[{"type":"close","stream_id":"x"}],"baton":5,"baton":"t\u00e9"} "#,
             r#"{"baton":"té","requests":[{"type":"close"}]}"#,
         ),
-    ];
-    for (text, want) in cases {
-        match body(rt.alloc(), text.as_bytes()) {
-            Ok(told) => assert_eq!(rt; told.as_str(), want, "at {text}"),
-            Err(_) => assert!(rt; false, "at {text}"),
-        }
-    }
+    ]);
 }
 
 // Each kind of decline, the first where several stand, and what may be asked over a WebSocket alone.
@@ -142,6 +147,13 @@ fn declined_requests_stand_in_their_places(rt: HostRuntime) {
     }
 }
 
+fn is_refused(alloc: Global, bytes: &[u8], want: BodyFail) -> bool {
+    match body(alloc, bytes) {
+        Ok(_) => false,
+        Err(fail) => fail == want,
+    }
+}
+
 #[test]
 fn bodies_are_refused(rt: HostRuntime) {
     let cases: [(&[u8], BodyFail); 11] = [
@@ -161,10 +173,16 @@ fn bodies_are_refused(rt: HostRuntime) {
         ),
     ];
     for (index, (text, want)) in cases.iter().enumerate() {
-        match body(rt.alloc(), text) {
-            Ok(_) => assert!(rt; false, "at {index}"),
-            Err(fail) => assert_eq!(rt; fail, *want, "at {index}"),
-        }
+        assert!(rt; is_refused(rt.alloc(), text, *want), "at {index}");
+    }
+}
+
+// How a body of so many requests fails, if it does; nothing where memory is short.
+fn fail_of(alloc: Global, start: &str, count: usize) -> Option<Option<BodyFail>> {
+    let text = many(alloc, start, count).ok()?;
+    match decode_pipeline(alloc, text.as_bytes()) {
+        Ok(_) => Some(None),
+        Err(fail) => Some(Some(fail)),
     }
 }
 
@@ -172,7 +190,6 @@ fn bodies_are_refused(rt: HostRuntime) {
 #[test]
 fn too_many_requests_are_refused(rt: HostRuntime) {
     limits_are();
-    let alloc = rt.alloc();
     let cases = [
         ("{", MAX_PIPELINE_ASKS, None),
         ("{", MAX_PIPELINE_ASKS + 1, Some(BodyFail::TooMany)),
@@ -183,36 +200,25 @@ fn too_many_requests_are_refused(rt: HostRuntime) {
         ),
     ];
     for (start, count, want) in cases {
-        let text = many(alloc, start, count).expect(&rt, "there is memory");
-        let told = match decode_pipeline(alloc, text.as_bytes()) {
-            Ok(_) => None,
-            Err(fail) => Some(fail),
-        };
-        assert_eq!(rt; told, want, "{count} requests");
+        assert!(rt; fail_of(rt.alloc(), start, count) == Some(want), "{count} requests");
     }
 }
 
 // A result of each kind, as it is written.
 #[test]
 fn answers_come_back(rt: HostRuntime) {
-    let answers = [
+    come_back::<BodyFail, AnswerTexts>(&rt, rt.alloc(), &[
         r#"{"base_url":null,"baton":"AAAAAAAAAAEAAAAAAAAAAAAAAAAAAAAA","results":[{"response":{"is_autocommit":true,"type":"get_autocommit"},"type":"ok"}]}"#,
         r#"{"base_url":null,"baton":null,"results":[{"response":{"type":"sequence"},"type":"ok"},{"response":{"type":"close"},"type":"ok"}]}"#,
         r#"{"base_url":null,"baton":"é","results":[]}"#,
         r#"{"base_url":null,"baton":null,"results":[{"response":{"result":{"affected_row_count":0,"cols":[{"name":"COUNT(*)"}],"last_insert_rowid":null,"rows":[[{"type":"integer","value":"1"}]]},"type":"execute"},"type":"ok"}]}"#,
         r#"{"base_url":null,"baton":null,"results":[{"error":{"code":"BUSY","message":"database is locked"},"type":"error"},{"response":{"result":{"step_errors":[null,{"code":null,"message":"m"}],"step_results":[null,null]},"type":"batch"},"type":"ok"},{"response":{"type":"store_sql"},"type":"ok"},{"response":{"type":"close_sql"},"type":"ok"}]}"#,
-    ];
-    for text in answers {
-        match answer(rt.alloc(), text.as_bytes()) {
-            Ok(told) => assert_eq!(rt; told.as_str(), text),
-            Err(_) => assert!(rt; false, "at {text}"),
-        }
-    }
+    ]);
 }
 
 #[test]
 fn other_answers_are_read(rt: HostRuntime) {
-    let cases = [
+    are_told::<BodyFail, AnswerTexts>(&rt, rt.alloc(), &[
         (
             r#"{"results":[]}"#,
             r#"{"base_url":null,"baton":null,"results":[]}"#,
@@ -221,19 +227,13 @@ fn other_answers_are_read(rt: HostRuntime) {
             r#"{"results":[{"type":"error","error":{"message":"m"},"response":5}],"baton":"b","base_url":"http://h","x":{}}"#,
             r#"{"base_url":null,"baton":"b","results":[{"error":{"code":null,"message":"m"},"type":"error"}]}"#,
         ),
-    ];
-    for (text, want) in cases {
-        match answer(rt.alloc(), text.as_bytes()) {
-            Ok(told) => assert_eq!(rt; told.as_str(), want, "at {text}"),
-            Err(_) => assert!(rt; false, "at {text}"),
-        }
-    }
+    ]);
 }
 
 // A float is declined where nothing else is wrong, also in a result before one that can be read.
 #[test]
 fn answers_are_refused(rt: HostRuntime) {
-    let cases = [
+    are_refused::<BodyFail, AnswerTexts>(&rt, rt.alloc(), &[
         ("{", BodyFail::NotJson),
         ("[]", BodyFail::Shape),
         ("{}", BodyFail::Shape),
@@ -270,31 +270,26 @@ fn answers_are_refused(rt: HostRuntime) {
             r#"{"results":[{"type":"ok","response":{"type":"execute","result":{"cols":[],"rows":[[{"type":"float"}]],"affected_row_count":-1}}}]}"#,
             BodyFail::Shape,
         ),
-    ];
-    for (text, want) in cases {
-        match answer(rt.alloc(), text.as_bytes()) {
-            Ok(_) => assert!(rt; false, "at {text}"),
-            Err(fail) => assert_eq!(rt; fail, want, "at {text}"),
-        }
-    }
+    ]);
+}
+
+// Whether an answer of this reply alone has a form.
+fn has_form(alloc: Global, reply: Reply) -> Option<bool> {
+    let mut results = Replies::new(alloc);
+    results.push(reply).ok()?;
+    let answer = PipelineAnswer {
+        baton: None,
+        results,
+    };
+    Some(answer.has_form())
 }
 
 // What no request of a pipeline is answered with has no form.
 #[test]
 fn replies_of_other_requests_are_told(rt: HostRuntime) {
     let alloc = rt.alloc();
-    for (reply, want) in [
-        (Reply::Cursor, false),
-        (Reply::StreamOpened, false),
-        (Reply::CursorClosed, false),
-        (Reply::Closed, true),
-    ] {
-        let mut results = Replies::new(alloc);
-        results.push(reply).expect(&rt, "there is memory");
-        let answer = PipelineAnswer {
-            baton: None,
-            results,
-        };
-        assert_eq!(rt; answer.has_form(), want);
-    }
+    assert!(rt; has_form(alloc, Reply::Cursor) == Some(false));
+    assert!(rt; has_form(alloc, Reply::StreamOpened) == Some(false));
+    assert!(rt; has_form(alloc, Reply::CursorClosed) == Some(false));
+    assert!(rt; has_form(alloc, Reply::Closed) == Some(true));
 }

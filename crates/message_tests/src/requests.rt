@@ -1,5 +1,6 @@
 // The members of asks, and cursor entries, by their tables. `messages` has the replies.
-use hrana_value::{Decline, ReadFail, text_of};
+use crate::tables::{Told, are_declined, come_back};
+use hrana_value::{Decline, ReadFail, Txt, text_of};
 use serde::{Described, Serialize, Serializer};
 use serde_json::Value as Json;
 use std::alloc::Global;
@@ -23,22 +24,34 @@ impl Serialize for Members {
 }
 
 // The members of an ask of this kind, written again.
-fn ask(alloc: Global, kind: AskKind, text: &str) -> Result<String, ReadFail> {
-    let Ok(json) = Json::from_str(alloc, text) else {
-        return Err(ReadFail::NoMemory);
-    };
-    let ask = ask_of_json(alloc, kind, &json)?;
-    serde_json::to_string(alloc, &Members { alloc, ask }).map_err(|_| ReadFail::NoMemory)
+fn ask(alloc: Global, kind: AskKind, json: &Json) -> Result<String, ReadFail> {
+    let ask = ask_of_json(alloc, kind, json)?;
+    match serde_json::to_string(alloc, &Members { alloc, ask }) {
+        Ok(text) => Ok(text),
+        Err(_) => Err(ReadFail::NoMemory),
+    }
 }
 
-// The entries of a text, written again.
-fn entries(alloc: Global, text: &str) -> Result<String, ReadFail> {
+fn ask_comes_back(alloc: Global, kind: AskKind, text: &str) -> bool {
     let Ok(json) = Json::from_str(alloc, text) else {
-        return Err(ReadFail::NoMemory);
+        return false;
     };
-    let read = entries_of_json(alloc, &json)?;
-    let written = text_of(alloc, &read)?;
-    String::from_str(alloc, written.as_str()).map_err(|_| ReadFail::NoMemory)
+    match ask(alloc, kind, &json) {
+        Ok(told) => told.as_str() == text,
+        Err(_) => false,
+    }
+}
+
+struct EntryTexts;
+
+impl Told<ReadFail> for EntryTexts {
+    fn told(alloc: Global, text: &str) -> Result<Txt, ReadFail> {
+        let Ok(json) = Json::from_str(alloc, text) else {
+            return Err(ReadFail::NoMemory);
+        };
+        let read = entries_of_json(alloc, &json)?;
+        Ok(text_of(alloc, &read)?)
+    }
 }
 
 #[test]
@@ -60,27 +73,22 @@ fn asks_come_back(rt: HostRuntime) {
         (AskKind::Close, "{}"),
     ];
     for (kind, text) in cases {
-        match ask(rt.alloc(), kind, text) {
-            Ok(told) => assert_eq!(rt; told.as_str(), text),
-            Err(_) => assert!(rt; false, "at {text}"),
-        }
+        assert!(rt; ask_comes_back(rt.alloc(), kind, text), "at {text}");
     }
 }
 
 #[test]
 fn entries_come_back(rt: HostRuntime) {
-    let text =
-        r#"[{"cols":[{"name":null}],"step":4294967295,"type":"step_begin"},{"row":[{"type":"null"}],"type":"row"},{"affected_row_count":18446744073709551615,"last_insert_rowid":"-9223372036854775808","type":"step_end"},{"error":{"code":"AUTH","message":"m"},"step":0,"type":"step_error"},{"error":{"code":null,"message":""},"type":"error"}]"#;
-    match entries(rt.alloc(), text) {
-        Ok(told) => assert_eq!(rt; told.as_str(), text),
-        Err(_) => assert!(rt; false),
-    }
+    let texts = [
+        r#"[{"cols":[{"name":null}],"step":4294967295,"type":"step_begin"},{"row":[{"type":"null"}],"type":"row"},{"affected_row_count":18446744073709551615,"last_insert_rowid":"-9223372036854775808","type":"step_end"},{"error":{"code":"AUTH","message":"m"},"step":0,"type":"step_error"},{"error":{"code":null,"message":""},"type":"error"}]"#,
+    ];
+    come_back::<ReadFail, EntryTexts>(&rt, rt.alloc(), &texts);
 }
 
 // The first kind of decline is told, wherever it stands, also in an entry before one that can be read.
 #[test]
 fn other_entries_are_declined(rt: HostRuntime) {
-    let cases = [
+    are_declined::<EntryTexts>(&rt, rt.alloc(), &[
         (r#"{"type":"row","row":[]}"#, Decline::Shape),
         (r#"[{"row":[]},{"type":"row","row":[]}]"#, Decline::Shape),
         (r#"[{"type":"rows","row":[]}]"#, Decline::Shape),
@@ -109,11 +117,5 @@ fn other_entries_are_declined(rt: HostRuntime) {
             r#"[{"type":"row","row":[{"type":"float"},{"type":"null"}]},{"type":"row","row":[]}]"#,
             Decline::Float,
         ),
-    ];
-    for (text, want) in cases {
-        match entries(rt.alloc(), text) {
-            Ok(_) => assert!(rt; false, "at {text}"),
-            Err(fail) => assert_eq!(rt; fail, ReadFail::Declined(want), "at {text}"),
-        }
-    }
+    ]);
 }

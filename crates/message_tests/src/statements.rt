@@ -1,4 +1,5 @@
 // Statements, results and errors.
+use crate::tables::{Told, are_declined, are_told, come_back};
 use hrana_stmt::{
     Code, NamedArg, NamedArgs, SqlRef, Stmt, error_of_json, error_to_json, limits_are,
     result_of_json, result_to_json, stmt_of_json, stmt_to_json, wire_error,
@@ -8,26 +9,40 @@ use serde_json::Value as Json;
 use std::alloc::Global;
 
 fn json_of(alloc: Global, text: &str) -> Result<Json, ReadFail> {
-    Json::from_str(alloc, text).map_err(|_| ReadFail::NoMemory)
+    match Json::from_str(alloc, text) {
+        Ok(json) => Ok(json),
+        Err(_) => Err(ReadFail::NoMemory),
+    }
 }
 
-fn text_of(alloc: Global, json: &Json) -> Result<String, ReadFail> {
-    json.to_string(alloc).map_err(|_| ReadFail::NoMemory)
+fn text_of(alloc: Global, json: &Json) -> Result<Txt, ReadFail> {
+    match json.to_string(alloc) {
+        Ok(text) => Ok(Txt::from_string(text)),
+        Err(_) => Err(ReadFail::NoMemory),
+    }
 }
 
-fn stmt_written(alloc: Global, text: &str) -> Result<String, ReadFail> {
-    let stmt = stmt_of_json(alloc, &json_of(alloc, text)?)?;
-    text_of(alloc, &stmt_to_json(alloc, &stmt)?)
+struct StmtTexts;
+
+impl Told<ReadFail> for StmtTexts {
+    fn told(alloc: Global, text: &str) -> Result<Txt, ReadFail> {
+        let stmt = stmt_of_json(alloc, &json_of(alloc, text)?)?;
+        text_of(alloc, &stmt_to_json(alloc, &stmt)?)
+    }
 }
 
-fn result_written(alloc: Global, text: &str) -> Result<String, ReadFail> {
-    let result = result_of_json(alloc, &json_of(alloc, text)?)?;
-    text_of(alloc, &result_to_json(alloc, &result)?)
+struct ResultTexts;
+
+impl Told<ReadFail> for ResultTexts {
+    fn told(alloc: Global, text: &str) -> Result<Txt, ReadFail> {
+        let result = result_of_json(alloc, &json_of(alloc, text)?)?;
+        text_of(alloc, &result_to_json(alloc, &result)?)
+    }
 }
 
 #[test]
 fn declines_come_in_order(rt: HostRuntime) {
-    let cases = [
+    are_declined::<StmtTexts>(&rt, rt.alloc(), &[
         ("5", Decline::Shape),
         ("{}", Decline::BothSql),
         (r#"{"sql":5,"sql_id":9999999999}"#, Decline::Shape),
@@ -49,18 +64,12 @@ fn declines_come_in_order(rt: HostRuntime) {
             r#"{"sql":"x","args":[{"type":"float"}],"named_args":[{"name":"a"}]}"#,
             Decline::Shape,
         ),
-    ];
-    for (text, want) in cases {
-        match stmt_written(rt.alloc(), text) {
-            Ok(_) => assert!(rt; false, "at {text}"),
-            Err(fail) => assert_eq!(rt; fail, ReadFail::Declined(want), "at {text}"),
-        }
-    }
+    ]);
 }
 
 #[test]
 fn statements_are_written_as_they_were_read(rt: HostRuntime) {
-    let cases = [
+    are_told::<ReadFail, StmtTexts>(&rt, rt.alloc(), &[
         (
             r#"{"sql":"SELECT 1","args":null,"want_rows":true}"#,
             r#"{"sql":"SELECT 1"}"#,
@@ -73,23 +82,14 @@ fn statements_are_written_as_they_were_read(rt: HostRuntime) {
             r#"{"sql":"x","named_args":[{"name":"a","value":{"type":"null"}}],"args":[{"type":"integer","value":"+5"}]}"#,
             r#"{"args":[{"type":"integer","value":"5"}],"named_args":[{"name":"a","value":{"type":"null"}}],"sql":"x"}"#,
         ),
-    ];
-    for (text, want) in cases {
-        match stmt_written(rt.alloc(), text) {
-            Ok(text) => assert_eq!(rt; text.as_str(), want, "at {text}"),
-            Err(_) => assert!(rt; false, "at {text}"),
-        }
-    }
+    ]);
 }
 
 #[test]
 fn results_are_written_as_they_were_read(rt: HostRuntime) {
-    let text =
-        r#"{"affected_row_count":0,"cols":[{"name":"a"},{"name":null}],"last_insert_rowid":"7","rows":[[{"type":"integer","value":"5"}],[]]}"#;
-    match result_written(rt.alloc(), text) {
-        Ok(written) => assert_eq!(rt; written.as_str(), text),
-        Err(_) => assert!(rt; false),
-    }
+    let written = [
+        r#"{"affected_row_count":0,"cols":[{"name":"a"},{"name":null}],"last_insert_rowid":"7","rows":[[{"type":"integer","value":"5"}],[]]}"#,
+    ];
     let declined = [
         (
             r#"{"affected_row_count":0,"cols":[5,{}],"rows":[]}"#,
@@ -104,25 +104,24 @@ fn results_are_written_as_they_were_read(rt: HostRuntime) {
             Decline::Range,
         ),
     ];
-    for (text, want) in declined {
-        match result_written(rt.alloc(), text) {
-            Ok(_) => assert!(rt; false, "at {text}"),
-            Err(fail) => assert_eq!(rt; fail, ReadFail::Declined(want), "at {text}"),
-        }
-    }
+    come_back::<ReadFail, ResultTexts>(&rt, rt.alloc(), &written);
+    are_declined::<ResultTexts>(&rt, rt.alloc(), &declined);
+}
+
+// The error of this code as a text, where it is read again.
+fn error_text(alloc: Global, code: Code) -> Result<Txt, ReadFail> {
+    let json = error_to_json(alloc, &wire_error(alloc, code)?)?;
+    let _read = error_of_json(alloc, &json)?;
+    text_of(alloc, &json)
 }
 
 #[test]
 fn an_error_has_its_code_and_message(rt: HostRuntime) {
-    let alloc = rt.alloc();
-    let error = wire_error(alloc, Code::BadType).expect(&rt, "there is memory");
-    let json = error_to_json(alloc, &error).expect(&rt, "there is memory");
-    let written = json.to_string(alloc).expect(&rt, "there is memory");
+    let text = error_text(rt.alloc(), Code::BadType).expect(&rt, "there is memory");
     assert_eq!(rt;
-        written.as_str(),
+        text.as_str(),
         r#"{"code":"TYPE","message":"operand is not an integer"}"#
     );
-    assert!(rt; error_of_json(alloc, &json).is_ok());
 }
 
 // A statement of an SQL text of this many bytes, with this many positional arguments and a named one.
@@ -148,21 +147,21 @@ fn stmt_of(alloc: Global, bytes: usize, count: usize) -> Result<Stmt, NoMemory> 
     })
 }
 
+// Whether such a statement is read; nothing where it fails in another way than by its range.
+fn fits(alloc: Global, bytes: usize, count: usize) -> Option<bool> {
+    let stmt = stmt_of(alloc, bytes, count).ok()?;
+    let json = stmt_to_json(alloc, &stmt).ok()?;
+    match stmt_of_json(alloc, &json) {
+        Ok(_) => Some(true),
+        Err(ReadFail::Declined(Decline::Range)) => Some(false),
+        Err(_) => None,
+    }
+}
+
 #[test]
 fn limits_are_those_of_the_protocol(rt: HostRuntime) {
     limits_are();
-    let alloc = rt.alloc();
-    for (bytes, count, fits) in [(65536, 255, true), (65537, 255, false), (65536, 256, false)] {
-        let stmt = stmt_of(alloc, bytes, count).expect(&rt, "there is memory");
-        let json = stmt_to_json(alloc, &stmt).expect(&rt, "there is memory");
-        match stmt_of_json(alloc, &json) {
-            Ok(_) => assert!(rt; fits, "at {bytes}, {count}"),
-            Err(fail) => {
-                assert!(rt;
-                    !fits && fail == ReadFail::Declined(Decline::Range),
-                    "at {bytes}, {count}"
-                )
-            }
-        }
+    for (bytes, count, want) in [(65536, 255, true), (65537, 255, false), (65536, 256, false)] {
+        assert!(rt; fits(rt.alloc(), bytes, count) == Some(want), "at {bytes}, {count}");
     }
 }

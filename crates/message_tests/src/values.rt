@@ -1,4 +1,5 @@
 // Values.
+use crate::tables::{Told, are_declined, are_told};
 use hrana_value::{
     Bytes, Decline, NoMemory, ReadFail, Txt, Value, Values, index_of, int32, int64_of_text,
     option_of_json, optional_list_of_json, text_of, uint32, uint64, value_of_json, value_to_json,
@@ -7,25 +8,41 @@ use serde_json::Value as Json;
 use std::alloc::Global;
 
 fn json_of(alloc: Global, text: &str) -> Result<Json, ReadFail> {
-    Json::from_str(alloc, text).map_err(|_| ReadFail::NoMemory)
+    match Json::from_str(alloc, text) {
+        Ok(json) => Ok(json),
+        Err(_) => Err(ReadFail::NoMemory),
+    }
 }
 
 // What is read is written again, so that a table shows both.
-fn written(alloc: Global, text: &str) -> Result<String, ReadFail> {
-    let value = value_of_json(alloc, &json_of(alloc, text)?)?;
+fn written(alloc: Global, value: &Value) -> Result<Txt, ReadFail> {
     let json = value_to_json(alloc, &value.copy(alloc)?)?;
-    json.to_string(alloc).map_err(|_| ReadFail::NoMemory)
+    match json.to_string(alloc) {
+        Ok(text) => Ok(Txt::from_string(text)),
+        Err(_) => Err(ReadFail::NoMemory),
+    }
 }
 
-fn list_written(alloc: Global, text: &str) -> Result<String, ReadFail> {
-    let values: Values = optional_list_of_json(alloc, &json_of(alloc, text)?)?;
-    let text = text_of(alloc, &values.copy(alloc)?)?;
-    String::from_str(alloc, text.as_str()).map_err(|_| ReadFail::NoMemory)
+struct ValueTexts;
+
+impl Told<ReadFail> for ValueTexts {
+    fn told(alloc: Global, text: &str) -> Result<Txt, ReadFail> {
+        written(alloc, &value_of_json(alloc, &json_of(alloc, text)?)?)
+    }
+}
+
+struct ListTexts;
+
+impl Told<ReadFail> for ListTexts {
+    fn told(alloc: Global, text: &str) -> Result<Txt, ReadFail> {
+        let values: Values = optional_list_of_json(alloc, &json_of(alloc, text)?)?;
+        Ok(text_of(alloc, &values.copy(alloc)?)?)
+    }
 }
 
 #[test]
 fn values_are_read_and_written(rt: HostRuntime) {
-    let cases = [
+    are_told::<ReadFail, ValueTexts>(&rt, rt.alloc(), &[
         (r#"{"type":"null"}"#, r#"{"type":"null"}"#),
         (
             r#"{"type":"integer","value":"+5"}"#,
@@ -47,18 +64,12 @@ fn values_are_read_and_written(rt: HostRuntime) {
             r#"{"type":"blob","base64":""}"#,
             r#"{"base64":"","type":"blob"}"#,
         ),
-    ];
-    for (text, want) in cases {
-        match written(rt.alloc(), text) {
-            Ok(text) => assert_eq!(rt; text.as_str(), want, "at {text}"),
-            Err(_) => assert!(rt; false, "at {text}"),
-        }
-    }
+    ]);
 }
 
 #[test]
 fn other_values_are_declined(rt: HostRuntime) {
-    let cases = [
+    are_declined::<ValueTexts>(&rt, rt.alloc(), &[
         (r#"{"type":"integer","value":""}"#, Decline::Shape),
         (r#"{"type":"integer","value":"5 "}"#, Decline::Shape),
         (r#"{"type":"integer","value":5}"#, Decline::Shape),
@@ -72,41 +83,39 @@ fn other_values_are_declined(rt: HostRuntime) {
         (r#"{"type":"float","value":"x"}"#, Decline::Float),
         (r#"{"type":"Null"}"#, Decline::Shape),
         ("[]", Decline::Shape),
-    ];
-    for (text, want) in cases {
-        match written(rt.alloc(), text) {
-            Ok(_) => assert!(rt; false, "at {text}"),
-            Err(fail) => assert_eq!(rt; fail, ReadFail::Declined(want), "at {text}"),
-        }
-    }
+    ]);
 }
 
 #[test]
 fn lists_are_read_to_their_end(rt: HostRuntime) {
-    let cases = [
-        ("null", Ok("[]")),
+    let told = [
+        ("null", "[]"),
         (
             r#"[{"type":"null"},{"type":"text","value":"a"}]"#,
-            Ok(r#"[{"type":"null"},{"type":"text","value":"a"}]"#),
+            r#"[{"type":"null"},{"type":"text","value":"a"}]"#,
         ),
-        ("{}", Err(Decline::Shape)),
+    ];
+    let declined = [
+        ("{}", Decline::Shape),
         (
             r#"[{"type":"float"},{"type":"null"},{"type":"null"}]"#,
-            Err(Decline::Float),
+            Decline::Float,
         ),
         (
             r#"[{"type":"null"},{"type":"float"},{"type":"integer","value":"9223372036854775808"},{"type":"float"}]"#,
-            Err(Decline::Range),
+            Decline::Range,
         ),
     ];
-    for (text, want) in cases {
-        match (list_written(rt.alloc(), text), want) {
-            (Ok(text), Ok(want)) => assert_eq!(rt; text.as_str(), want, "at {text}"),
-            (Err(fail), Err(want)) => {
-                assert_eq!(rt; fail, ReadFail::Declined(want), "at {text}")
-            }
-            _ => assert!(rt; false, "at {text}"),
-        }
+    are_told::<ReadFail, ListTexts>(&rt, rt.alloc(), &told);
+    are_declined::<ListTexts>(&rt, rt.alloc(), &declined);
+}
+
+fn is_optional(alloc: Global, json: &Json, want: Option<&str>) -> bool {
+    let read: Result<Option<Txt>, ReadFail> = option_of_json(alloc, json);
+    match read {
+        Ok(Some(text)) => want == Some(text.as_str()),
+        Ok(None) => want.is_none(),
+        Err(_) => false,
     }
 }
 
@@ -114,10 +123,22 @@ fn lists_are_read_to_their_end(rt: HostRuntime) {
 fn optional_texts_are_read(rt: HostRuntime) {
     let alloc = rt.alloc();
     let json = json_of(alloc, "\"a\"").expect(&rt, "it is JSON");
-    let text: Option<Txt> = option_of_json(alloc, &json).expect(&rt, "it is a text");
-    assert_eq!(rt; text.expect(&rt, "it is there").as_str(), "a");
-    let none: Option<Txt> = option_of_json(alloc, &Json::Null).expect(&rt, "it is null");
-    assert!(rt; none.is_none());
+    assert!(rt; is_optional(alloc, &json, Some("a")));
+    assert!(rt; is_optional(alloc, &Json::Null, None));
+}
+
+// What a text gives as a number of each of three types.
+type Numbers = (
+    Result<i32, Decline>,
+    Result<u32, Decline>,
+    Result<u64, Decline>,
+);
+
+fn are_numbers(alloc: Global, text: &str, wants: Numbers) -> bool {
+    let Ok(json) = json_of(alloc, text) else {
+        return false;
+    };
+    (int32(&json), uint32(&json), uint64(&json)) == wants
 }
 
 #[test]
@@ -151,10 +172,7 @@ fn whole_numbers_are_read_or_declined(rt: HostRuntime) {
         ),
     ];
     for (text, signed, short, long) in cases {
-        let json = json_of(rt.alloc(), text).expect(&rt, "it is JSON");
-        assert!(rt; int32(&json) == signed, "at {text}");
-        assert!(rt; uint32(&json) == short, "at {text}");
-        assert!(rt; uint64(&json) == long, "at {text}");
+        assert!(rt; are_numbers(rt.alloc(), text, (signed, short, long)), "at {text}");
     }
     assert!(rt; int64_of_text("007") == Ok(7));
     assert!(rt; int64_of_text("99999999999999999999x") == Err(Decline::Shape));

@@ -46,6 +46,15 @@ fn number_of(stream: Option<StreamNo>) -> u64 {
     }
 }
 
+/// Who holds the turn, who is the next waiter, and the version.
+fn state(table: &TxnTable) -> (u64, u64, u64) {
+    (
+        number_of(table.turn()),
+        number_of(table.next_waiter()),
+        table.version(),
+    )
+}
+
 const ALONE: Call = Call::Want(Need::Alone);
 
 const BEGIN: Call = Call::Want(Need::Begin);
@@ -99,9 +108,7 @@ fn streams_wait_for_each_other(rt: HostRuntime) -> Result<(), Fail> {
         (3, ALONE, Some(Grant::Now(2)), 3, 0, 2),
     ] {
         assert_eq!(rt; make_call(&mut table, stream, what)?, grant);
-        assert_eq!(rt; number_of(table.turn()), holder);
-        assert_eq!(rt; number_of(table.next_waiter()), waiter);
-        assert_eq!(rt; table.version(), version);
+        assert_eq!(rt; state(&table), (holder, waiter, version));
     }
     Ok(())
 }

@@ -1,6 +1,7 @@
 // The memory keeper, by tables of statements with their answers.
 ghost use Rattle.std.specs.Prelude.{IfOk, IsTrue};
 ghost use Rattle.engine_core.specs.Engine.{IsReadOrWrite};
+ghost use Rattle.engine_core.specs.Transactions.{NoneLive};
 
 use engine_core::{BoundStmt, Class, Engine, EngineFail};
 use hrana_stmt::{Code, StmtResult};
@@ -208,34 +209,46 @@ fn keys_find_their_rows(rt: HostRuntime) -> Result<(), Fail> {
     )
 }
 
+/// How many rows a statement with no arguments gives.
+fn row_count(alloc: Global, db: &mut Database, sql: &str) -> Result<usize, EngineFail> {
+    let given = run(alloc, db, sql, Values::new(alloc))?;
+    Ok(given.rows.as_slice().len())
+}
+
+/// Runs a statement so many times.
+fn run_often(alloc: Global, db: &mut Database, sql: &str, times: u32) -> Result<(), EngineFail> {
+    for _ in 0..times {
+        row_count(alloc, db, sql)?;
+    }
+    Ok(())
+}
+
+const TOO_LARGE: Result<usize, EngineFail> = Err(EngineFail::Refused(Code::ResultTooLarge));
+
 #[test]
 fn results_have_limits(rt: HostRuntime) -> Result<(), Fail> {
     let alloc = rt.alloc();
     let mut db = Database::new(alloc);
-    run(alloc, &mut db, "CREATE TABLE t (a)", Values::new(alloc))?;
-    for _ in 0..4096 {
-        run(
-            alloc,
-            &mut db,
-            "INSERT INTO t VALUES (0)",
-            Values::new(alloc),
-        )?;
-    }
-    let whole = run(alloc, &mut db, "SELECT * FROM t", Values::new(alloc))?;
-    assert_eq!(rt; whole.rows.as_slice().len(), 4096);
-    run(
-        alloc,
-        &mut db,
-        "INSERT INTO t VALUES (1)",
-        Values::new(alloc),
-    )?;
-    let refused = run(alloc, &mut db, "SELECT * FROM t", Values::new(alloc));
-    assert_eq!(rt;
-        refused.err(),
-        Some(EngineFail::Refused(Code::ResultTooLarge))
-    );
-    let refused = run(alloc, &mut db, "SELECT a + 'x' FROM t", Values::new(alloc));
-    assert_eq!(rt; refused.err(), Some(EngineFail::Refused(Code::BadType)));
+    run_often(alloc, &mut db, "CREATE TABLE t (a)", 1)?;
+    run_often(alloc, &mut db, "INSERT INTO t VALUES (0)", 4096)?;
+    assert_eq!(rt; row_count(alloc, &mut db, "SELECT * FROM t"), Ok(4096));
+    run_often(alloc, &mut db, "INSERT INTO t VALUES (1)", 1)?;
+    assert_eq!(rt; row_count(alloc, &mut db, "SELECT * FROM t"), TOO_LARGE);
+    let refused = row_count(alloc, &mut db, "SELECT a + 'x' FROM t");
+    assert_eq!(rt; refused, Err(EngineFail::Refused(Code::BadType)));
+    Ok(())
+}
+
+/// A blob of so many bytes, as the only argument.
+fn blob(alloc: Global, count: usize) -> Result<Values, NoMemory> {
+    let mut values = Values::new(alloc);
+    values.push(Value::Blob(Bytes::from_vec(vec![in alloc; 0u8; count]?)))?;
+    Ok(values)
+}
+
+fn insert_blob(alloc: Global, db: &mut Database, count: usize) -> Result<(), EngineFail> {
+    let values = blob(alloc, count)?;
+    run(alloc, db, "INSERT INTO t VALUES (?)", values)?;
     Ok(())
 }
 
@@ -243,48 +256,80 @@ fn results_have_limits(rt: HostRuntime) -> Result<(), Fail> {
 fn results_have_bytes(rt: HostRuntime) -> Result<(), Fail> {
     let alloc = rt.alloc();
     let mut db = Database::new(alloc);
-    run(alloc, &mut db, "CREATE TABLE t (a)", Values::new(alloc))?;
+    run_often(alloc, &mut db, "CREATE TABLE t (a)", 1)?;
     // A blob counts 8 and its length, so that this one is 1,048,576 bytes.
-    let mut values = Values::new(alloc);
-    values.push(Value::Blob(Bytes::from_vec(vec![in alloc; 0u8; 1048568]?)))?;
-    run(alloc, &mut db, "INSERT INTO t VALUES (?)", values)?;
-    let whole = run(alloc, &mut db, "SELECT a FROM t", Values::new(alloc))?;
-    assert_eq!(rt; whole.rows.as_slice().len(), 1);
-    let refused = run(alloc, &mut db, "SELECT a, 1 FROM t", Values::new(alloc));
-    assert_eq!(rt;
-        refused.err(),
-        Some(EngineFail::Refused(Code::ResultTooLarge))
-    );
+    insert_blob(alloc, &mut db, 1048568)?;
+    assert_eq!(rt; row_count(alloc, &mut db, "SELECT a FROM t"), Ok(1));
+    assert_eq!(rt; row_count(alloc, &mut db, "SELECT a, 1 FROM t"), TOO_LARGE);
     Ok(())
+}
+
+/// How many rows an inserting transaction has found, and how many there are once it is dropped.
+fn counts_of_dropped(
+    keeper: &mut MemoryKeeper,
+    create: &BoundStmt,
+    insert: &BoundStmt,
+    select: &BoundStmt,
+) -> Result<(usize, usize), EngineFail>
+    requires quiet { NoneLive (⟦<MemoryKeeper as Engine>⟧.live keeper.old) }
+    requires create { IsReadOrWrite create.now.class }
+    requires insert { IsReadOrWrite insert.now.class }
+    requires select { IsReadOrWrite select.now.class }
+{
+    keeper.alone(create)?;
+    keeper.begin(7, true)?;
+    keeper.run(7, insert)?;
+    let within = keeper.run(7, select)?.rows.as_slice().len();
+    keeper.drop_txn(7);
+    Ok((within, keeper.alone(select)?.rows.as_slice().len()))
+}
+
+/// How many rows there are once an inserting transaction has committed.
+fn count_of_committed(
+    keeper: &mut MemoryKeeper,
+    create: &BoundStmt,
+    insert: &BoundStmt,
+    select: &BoundStmt,
+) -> Result<usize, EngineFail>
+    requires quiet { NoneLive (⟦<MemoryKeeper as Engine>⟧.live keeper.old) }
+    requires create { IsReadOrWrite create.now.class }
+    requires insert { IsReadOrWrite insert.now.class }
+    requires select { IsReadOrWrite select.now.class }
+{
+    keeper.alone(create)?;
+    keeper.begin(8, true)?;
+    keeper.run(8, insert)?;
+    keeper.commit(8)?;
+    Ok(keeper.alone(select)?.rows.as_slice().len())
+}
+
+/// A statement with no arguments.
+fn bare(alloc: Global, sql: &str) -> Result<BoundStmt, NoMemory>
+    ensures { IfOk result (λ stmt. IsReadOrWrite stmt.class) }
+{
+    statement(alloc, sql, Values::new(alloc))
 }
 
 #[test]
 fn transactions_work_on_copies(rt: HostRuntime) -> Result<(), Fail> {
     let alloc = rt.alloc();
+    let create = bare(alloc, "CREATE TABLE t (a)")?;
+    let insert = bare(alloc, "INSERT INTO t VALUES (1)")?;
+    let select = bare(alloc, "SELECT a FROM t")?;
     let mut keeper = MemoryKeeper::new(alloc)?;
-    let create = statement(alloc, "CREATE TABLE t (a)", Values::new(alloc))?;
-    let insert = statement(alloc, "INSERT INTO t VALUES (1)", Values::new(alloc))?;
-    let select = statement(alloc, "SELECT a FROM t", Values::new(alloc))?;
-    keeper.alone(&create)?;
-    keeper.begin(7, true)?;
-    keeper.run(7, &insert)?;
-    assert_eq!(rt; keeper.run(7, &select)?.rows.as_slice().len(), 1);
-    keeper.drop_txn(7);
-    assert_eq!(rt; keeper.alone(&select)?.rows.as_slice().len(), 0);
+    let counts = counts_of_dropped(&mut keeper, &create, &insert, &select);
+    assert_eq!(rt; counts, Ok((1, 0)));
     Ok(())
 }
 
 #[test]
 fn commits_are_kept(rt: HostRuntime) -> Result<(), Fail> {
     let alloc = rt.alloc();
+    let create = bare(alloc, "CREATE TABLE t (a)")?;
+    let insert = bare(alloc, "INSERT INTO t VALUES (1)")?;
+    let select = bare(alloc, "SELECT a FROM t")?;
     let mut keeper = MemoryKeeper::new(alloc)?;
-    let create = statement(alloc, "CREATE TABLE t (a)", Values::new(alloc))?;
-    let insert = statement(alloc, "INSERT INTO t VALUES (1)", Values::new(alloc))?;
-    let select = statement(alloc, "SELECT a FROM t", Values::new(alloc))?;
-    keeper.alone(&create)?;
-    keeper.begin(8, true)?;
-    keeper.run(8, &insert)?;
-    keeper.commit(8)?;
-    assert_eq!(rt; keeper.alone(&select)?.rows.as_slice().len(), 1);
+    let count = count_of_committed(&mut keeper, &create, &insert, &select);
+    assert_eq!(rt; count, Ok(1));
     Ok(())
 }
