@@ -10,6 +10,7 @@ use hrana_stmt::{Code, Cols, Rows, SqlRef, StmtResult, wire_error};
 use hrana_value::{Decline, NoMemory, ReadFail, Txt};
 use serde_json::Value as Json;
 use std::alloc::Global;
+use std::process::Abort;
 
 fn batch(alloc: Global, text: &str) -> Result<Batch, ReadFail> {
     match Json::from_str(alloc, text) {
@@ -82,28 +83,32 @@ fn many_steps(alloc: Global, steps: usize) -> Result<String, NoMemory> {
 // The first kind of decline is told, wherever it stands, also in an item before one that can be read.
 #[test]
 fn batches_are_declined(rt: HostRuntime) {
-    are_declined::<BatchTexts>(&rt, rt.alloc(), &[
-        ("5", Decline::Shape),
-        ("{}", Decline::Shape),
-        (r#"{"steps":{}}"#, Decline::Shape),
-        (r#"{"steps":[5,{"stmt":{"sql":""}}]}"#, Decline::Shape),
-        (
-            r#"{"steps":[{"stmt":{}},{"stmt":{"sql":""}}]}"#,
-            Decline::BothSql,
-        ),
-        (
-            r#"{"steps":[{"condition":{"type":"ok","step":0},"stmt":{}}]}"#,
-            Decline::BothSql,
-        ),
-        (
-            r#"{"steps":[{"stmt":{"sql":""}},{"condition":{"type":"error","step":1},"stmt":{"sql":""}}]}"#,
-            Decline::BadStep,
-        ),
-        (
-            r#"{"steps":[{"stmt":{"sql":"","args":[{"type":"float"}]}},{"condition":{"type":"ok","step":-1},"stmt":{"sql":""}}]}"#,
-            Decline::Range,
-        ),
-    ]);
+    are_declined::<ReadFail, BatchTexts>(
+        &rt,
+        rt.alloc(),
+        &[
+            ("5", Decline::Shape),
+            ("{}", Decline::Shape),
+            (r#"{"steps":{}}"#, Decline::Shape),
+            (r#"{"steps":[5,{"stmt":{"sql":""}}]}"#, Decline::Shape),
+            (
+                r#"{"steps":[{"stmt":{}},{"stmt":{"sql":""}}]}"#,
+                Decline::BothSql,
+            ),
+            (
+                r#"{"steps":[{"condition":{"type":"ok","step":0},"stmt":{}}]}"#,
+                Decline::BothSql,
+            ),
+            (
+                r#"{"steps":[{"stmt":{"sql":""}},{"condition":{"type":"error","step":1},"stmt":{"sql":""}}]}"#,
+                Decline::BadStep,
+            ),
+            (
+                r#"{"steps":[{"stmt":{"sql":"","args":[{"type":"float"}]}},{"condition":{"type":"ok","step":-1},"stmt":{"sql":""}}]}"#,
+                Decline::Range,
+            ),
+        ],
+    );
 }
 
 // How this text of a batch is declined, if it is; nothing where it fails otherwise.
@@ -121,6 +126,13 @@ fn condition_declined(alloc: Global, nots: usize, inner: &str) -> Option<Option<
     decline_of(alloc, text.as_str())
 }
 
+fn are_conditions(rt: &impl Abort, alloc: Global, cases: &[(usize, &str, Option<Decline>)]) {
+    for (nots, inner, want) in cases {
+        let declined = condition_declined(alloc, *nots, inner);
+        assert!(rt; declined == Some(*want), "at {inner} in {nots}");
+    }
+}
+
 fn steps_declined(alloc: Global, steps: usize) -> Option<Option<Decline>> {
     let text = many_steps(alloc, steps).ok()?;
     decline_of(alloc, text.as_str())
@@ -129,44 +141,45 @@ fn steps_declined(alloc: Global, steps: usize) -> Option<Option<Decline>> {
 // A condition is at most 32 deep. What is declined in a deep one is told before its depth.
 #[test]
 fn conditions_are_declined(rt: HostRuntime) {
-    let cases = [
-        (0, "5", Some(Decline::Shape)),
-        (0, r#"{"type":"xor"}"#, Some(Decline::Shape)),
-        (0, r#"{"type":"ok"}"#, Some(Decline::Shape)),
-        (0, r#"{"type":"ok","step":1.5}"#, Some(Decline::Shape)),
-        (0, r#"{"type":"ok","step":0}"#, Some(Decline::BadStep)),
-        (
-            0,
-            r#"{"type":"ok","step":4294967296}"#,
-            Some(Decline::BadStep),
-        ),
-        (0, r#"{"type":"ok","step":-1}"#, Some(Decline::Range)),
-        (0, r#"{"type":"not"}"#, Some(Decline::Shape)),
-        (0, r#"{"type":"and","conds":null}"#, Some(Decline::Shape)),
-        (
-            0,
-            r#"{"type":"and","conds":[{"type":"ok","step":0},{"type":"is_autocommit"}]}"#,
-            Some(Decline::BadStep),
-        ),
-        (
-            0,
-            r#"{"type":"or","conds":[{"type":"ok","step":-1},{"type":"not","cond":{"type":"ok","step":0}}]}"#,
-            Some(Decline::BadStep),
-        ),
-        (31, r#"{"type":"is_autocommit"}"#, None),
-        (32, r#"{"type":"is_autocommit"}"#, Some(Decline::Range)),
-        (31, r#"{"type":"and","conds":[]}"#, None),
-        (
-            31,
-            r#"{"type":"and","conds":[{"type":"is_autocommit"}]}"#,
-            Some(Decline::Range),
-        ),
-        (32, r#"{"type":"ok","step":0}"#, Some(Decline::BadStep)),
-        (32, r#"{"type":"xor"}"#, Some(Decline::Shape)),
-    ];
-    for (nots, inner, want) in cases {
-        assert!(rt; condition_declined(rt.alloc(), nots, inner) == Some(want), "at {inner} in {nots}");
-    }
+    are_conditions(
+        &rt,
+        rt.alloc(),
+        &[
+            (0, "5", Some(Decline::Shape)),
+            (0, r#"{"type":"xor"}"#, Some(Decline::Shape)),
+            (0, r#"{"type":"ok"}"#, Some(Decline::Shape)),
+            (0, r#"{"type":"ok","step":1.5}"#, Some(Decline::Shape)),
+            (0, r#"{"type":"ok","step":0}"#, Some(Decline::BadStep)),
+            (
+                0,
+                r#"{"type":"ok","step":4294967296}"#,
+                Some(Decline::BadStep),
+            ),
+            (0, r#"{"type":"ok","step":-1}"#, Some(Decline::Range)),
+            (0, r#"{"type":"not"}"#, Some(Decline::Shape)),
+            (0, r#"{"type":"and","conds":null}"#, Some(Decline::Shape)),
+            (
+                0,
+                r#"{"type":"and","conds":[{"type":"ok","step":0},{"type":"is_autocommit"}]}"#,
+                Some(Decline::BadStep),
+            ),
+            (
+                0,
+                r#"{"type":"or","conds":[{"type":"ok","step":-1},{"type":"not","cond":{"type":"ok","step":0}}]}"#,
+                Some(Decline::BadStep),
+            ),
+            (31, r#"{"type":"is_autocommit"}"#, None),
+            (32, r#"{"type":"is_autocommit"}"#, Some(Decline::Range)),
+            (31, r#"{"type":"and","conds":[]}"#, None),
+            (
+                31,
+                r#"{"type":"and","conds":[{"type":"is_autocommit"}]}"#,
+                Some(Decline::Range),
+            ),
+            (32, r#"{"type":"ok","step":0}"#, Some(Decline::BadStep)),
+            (32, r#"{"type":"xor"}"#, Some(Decline::Shape)),
+        ],
+    );
 }
 
 #[test]
@@ -178,48 +191,60 @@ fn a_batch_has_at_most_256_steps(rt: HostRuntime) {
 
 #[test]
 fn batches_come_back(rt: HostRuntime) {
-    come_back::<ReadFail, BatchTexts>(&rt, rt.alloc(), &[
-        r#"{"steps":[]}"#,
-        r#"{"steps":[{"stmt":{"sql":"A"}},{"condition":{"cond":{"step":0,"type":"ok"},"type":"not"},"stmt":{"sql":"B"}}]}"#,
-        r#"{"steps":[{"stmt":{"sql":"A"}},{"condition":{"conds":[{"conds":[],"type":"or"},{"step":0,"type":"error"},{"type":"is_autocommit"}],"type":"and"},"stmt":{"sql_id":1}}]}"#,
-    ]);
+    come_back::<ReadFail, BatchTexts>(
+        &rt,
+        rt.alloc(),
+        &[
+            r#"{"steps":[]}"#,
+            r#"{"steps":[{"stmt":{"sql":"A"}},{"condition":{"cond":{"step":0,"type":"ok"},"type":"not"},"stmt":{"sql":"B"}}]}"#,
+            r#"{"steps":[{"stmt":{"sql":"A"}},{"condition":{"conds":[{"conds":[],"type":"or"},{"step":0,"type":"error"},{"type":"is_autocommit"}],"type":"and"},"stmt":{"sql_id":1}}]}"#,
+        ],
+    );
 }
 
 #[test]
 fn results_of_batches_come_back(rt: HostRuntime) {
-    come_back::<ReadFail, ResultTexts>(&rt, rt.alloc(), &[
-        r#"{"step_errors":[],"step_results":[]}"#,
-        r#"{"step_errors":[null],"step_results":[null]}"#,
-        r#"{"step_errors":[null,{"code":"CONSTRAINT","message":"primary key constraint failed"},null],"step_results":[{"affected_row_count":1,"cols":[],"last_insert_rowid":"1","rows":[]},null,null]}"#,
-    ]);
+    come_back::<ReadFail, ResultTexts>(
+        &rt,
+        rt.alloc(),
+        &[
+            r#"{"step_errors":[],"step_results":[]}"#,
+            r#"{"step_errors":[null],"step_results":[null]}"#,
+            r#"{"step_errors":[null,{"code":"CONSTRAINT","message":"primary key constraint failed"},null],"step_results":[{"affected_row_count":1,"cols":[],"last_insert_rowid":"1","rows":[]},null,null]}"#,
+        ],
+    );
 }
 
 #[test]
 fn results_of_batches_are_declined(rt: HostRuntime) {
-    are_declined::<ResultTexts>(&rt, rt.alloc(), &[
-        ("[]", Decline::Shape),
-        (r#"{"step_results":[]}"#, Decline::Shape),
-        (
-            r#"{"step_errors":[],"step_results":[null]}"#,
-            Decline::Shape,
-        ),
-        (
-            r#"{"step_errors":[{"message":"x"}],"step_results":[{"affected_row_count":0,"cols":[],"rows":[]}]}"#,
-            Decline::Shape,
-        ),
-        (
-            r#"{"step_errors":[5,null],"step_results":[null,null]}"#,
-            Decline::Shape,
-        ),
-        (
-            r#"{"step_errors":[null,null],"step_results":[{"affected_row_count":0,"cols":[],"rows":[[{"type":"float"}]]},null]}"#,
-            Decline::Float,
-        ),
-        (
-            r#"{"step_errors":[null,null],"step_results":[{"affected_row_count":0,"cols":[],"rows":[[{"type":"float"}]]},{"affected_row_count":-1,"cols":[],"rows":[]}]}"#,
-            Decline::Range,
-        ),
-    ]);
+    are_declined::<ReadFail, ResultTexts>(
+        &rt,
+        rt.alloc(),
+        &[
+            ("[]", Decline::Shape),
+            (r#"{"step_results":[]}"#, Decline::Shape),
+            (
+                r#"{"step_errors":[],"step_results":[null]}"#,
+                Decline::Shape,
+            ),
+            (
+                r#"{"step_errors":[{"message":"x"}],"step_results":[{"affected_row_count":0,"cols":[],"rows":[]}]}"#,
+                Decline::Shape,
+            ),
+            (
+                r#"{"step_errors":[5,null],"step_results":[null,null]}"#,
+                Decline::Shape,
+            ),
+            (
+                r#"{"step_errors":[null,null],"step_results":[{"affected_row_count":0,"cols":[],"rows":[[{"type":"float"}]]},null]}"#,
+                Decline::Float,
+            ),
+            (
+                r#"{"step_errors":[null,null],"step_results":[{"affected_row_count":0,"cols":[],"rows":[[{"type":"float"}]]},{"affected_row_count":-1,"cols":[],"rows":[]}]}"#,
+                Decline::Range,
+            ),
+        ],
+    );
 }
 
 // What became of a step: `d` done, `f` failed, `s` skipped.
@@ -291,34 +316,41 @@ fn runs(alloc: Global, text: &str, autos: &str, wants: &str) -> bool {
     matches!(run.next(true), Next::Finished)
 }
 
+fn all_run(rt: &impl Abort, alloc: Global, cases: &[(&str, &str, &str)]) {
+    for (text, autos, wants) in cases {
+        assert!(rt; runs(alloc, text, autos, wants), "at {text}");
+    }
+}
+
 // The flags are whether the session is in autocommit at the turn of each step.
 #[test]
 fn batches_are_run_as_their_conditions_say(rt: HostRuntime) {
-    let cases = [
-        (
-            r#"{"steps":[{"stmt":{"sql":"BEGIN"}},{"condition":{"type":"ok","step":0},"stmt":{"sql":"INSERT INTO t VALUES (1, 'x')"}},{"condition":{"type":"ok","step":1},"stmt":{"sql":"COMMIT"}},{"condition":{"type":"not","cond":{"type":"ok","step":2}},"stmt":{"sql":"ROLLBACK"}}]}"#,
-            "afff",
-            "dfsd",
-        ),
-        (
-            r#"{"steps":[{"condition":{"type":"is_autocommit"},"stmt":{"sql":"SELECT 1"}},{"stmt":{"sql":"BEGIN"}},{"condition":{"type":"is_autocommit"},"stmt":{"sql":"SELECT 2"}},{"condition":{"type":"and","conds":[]},"stmt":{"sql":"SELECT 3"}},{"condition":{"type":"or","conds":[]},"stmt":{"sql":"SELECT 4"}},{"stmt":{"sql":"COMMIT"}}]}"#,
-            "aaffff",
-            "ddsdsd",
-        ),
-        (
-            r#"{"steps":[{"stmt":{"sql":"BEGIN IMMEDIATE"}},{"condition":{"type":"ok","step":0},"stmt":{"sql":"INSERT INTO t VALUES (:a, :b)"}},{"condition":{"type":"ok","step":1},"stmt":{"sql":"COMMIT"}},{"condition":{"type":"not","cond":{"type":"ok","step":2}},"stmt":{"sql":"ROLLBACK"}}]}"#,
-            "affa",
-            "ddds",
-        ),
-        (
-            r#"{"steps":[{"stmt":{"sql":"A"}},{"condition":{"type":"error","step":0},"stmt":{"sql":"B"}},{"condition":{"type":"or","conds":[{"type":"ok","step":1},{"type":"error","step":1}]},"stmt":{"sql":"C"}}]}"#,
-            "aaa",
-            "dss",
-        ),
-    ];
-    for (text, autos, wants) in cases {
-        assert!(rt; runs(rt.alloc(), text, autos, wants), "at {text}");
-    }
+    all_run(
+        &rt,
+        rt.alloc(),
+        &[
+            (
+                r#"{"steps":[{"stmt":{"sql":"BEGIN"}},{"condition":{"type":"ok","step":0},"stmt":{"sql":"INSERT INTO t VALUES (1, 'x')"}},{"condition":{"type":"ok","step":1},"stmt":{"sql":"COMMIT"}},{"condition":{"type":"not","cond":{"type":"ok","step":2}},"stmt":{"sql":"ROLLBACK"}}]}"#,
+                "afff",
+                "dfsd",
+            ),
+            (
+                r#"{"steps":[{"condition":{"type":"is_autocommit"},"stmt":{"sql":"SELECT 1"}},{"stmt":{"sql":"BEGIN"}},{"condition":{"type":"is_autocommit"},"stmt":{"sql":"SELECT 2"}},{"condition":{"type":"and","conds":[]},"stmt":{"sql":"SELECT 3"}},{"condition":{"type":"or","conds":[]},"stmt":{"sql":"SELECT 4"}},{"stmt":{"sql":"COMMIT"}}]}"#,
+                "aaffff",
+                "ddsdsd",
+            ),
+            (
+                r#"{"steps":[{"stmt":{"sql":"BEGIN IMMEDIATE"}},{"condition":{"type":"ok","step":0},"stmt":{"sql":"INSERT INTO t VALUES (:a, :b)"}},{"condition":{"type":"ok","step":1},"stmt":{"sql":"COMMIT"}},{"condition":{"type":"not","cond":{"type":"ok","step":2}},"stmt":{"sql":"ROLLBACK"}}]}"#,
+                "affa",
+                "ddds",
+            ),
+            (
+                r#"{"steps":[{"stmt":{"sql":"A"}},{"condition":{"type":"error","step":0},"stmt":{"sql":"B"}},{"condition":{"type":"or","conds":[{"type":"ok","step":1},{"type":"error","step":1}]},"stmt":{"sql":"C"}}]}"#,
+                "aaa",
+                "dss",
+            ),
+        ],
+    );
 }
 
 fn is_next(run: &BatchRun, text: &str) -> bool {

@@ -4,6 +4,7 @@ use hrana_value::{Decline, ReadFail, Txt, text_of};
 use serde::{Described, Serialize, Serializer};
 use serde_json::Value as Json;
 use std::alloc::Global;
+use std::process::Abort;
 use stream_requests::{Ask, AskKind, ask_member_count, ask_of_json, entries_of_json, send_ask};
 
 // The members of an ask as an object of their own.
@@ -42,6 +43,12 @@ fn ask_comes_back(alloc: Global, kind: AskKind, text: &str) -> bool {
     }
 }
 
+fn asks_are_told(rt: &impl Abort, alloc: Global, cases: &[(AskKind, &str)]) {
+    for (kind, text) in cases {
+        assert!(rt; ask_comes_back(alloc, *kind, text), "at {text}");
+    }
+}
+
 struct EntryTexts;
 
 impl Told<ReadFail> for EntryTexts {
@@ -56,25 +63,26 @@ impl Told<ReadFail> for EntryTexts {
 
 #[test]
 fn asks_come_back(rt: HostRuntime) {
-    let cases = [
-        (AskKind::Execute, r#"{"stmt":{"sql":"a"}}"#),
-        (AskKind::Batch, r#"{"batch":{"steps":[]}}"#),
-        (AskKind::Sequence, r#"{"sql":"a;b"}"#),
-        (AskKind::Sequence, r#"{"sql_id":-1}"#),
-        (
-            AskKind::Cursor,
-            r#"{"batch":{"steps":[{"stmt":{"sql":"a"}}]}}"#,
-        ),
-        (AskKind::Fetch, r#"{"max_count":4294967295}"#),
-        (AskKind::CloseCursor, "{}"),
-        (AskKind::GetAutocommit, "{}"),
-        (AskKind::StoreSql, r#"{"sql":"","sql_id":8}"#),
-        (AskKind::CloseSql, r#"{"sql_id":7}"#),
-        (AskKind::Close, "{}"),
-    ];
-    for (kind, text) in cases {
-        assert!(rt; ask_comes_back(rt.alloc(), kind, text), "at {text}");
-    }
+    asks_are_told(
+        &rt,
+        rt.alloc(),
+        &[
+            (AskKind::Execute, r#"{"stmt":{"sql":"a"}}"#),
+            (AskKind::Batch, r#"{"batch":{"steps":[]}}"#),
+            (AskKind::Sequence, r#"{"sql":"a;b"}"#),
+            (AskKind::Sequence, r#"{"sql_id":-1}"#),
+            (
+                AskKind::Cursor,
+                r#"{"batch":{"steps":[{"stmt":{"sql":"a"}}]}}"#,
+            ),
+            (AskKind::Fetch, r#"{"max_count":4294967295}"#),
+            (AskKind::CloseCursor, "{}"),
+            (AskKind::GetAutocommit, "{}"),
+            (AskKind::StoreSql, r#"{"sql":"","sql_id":8}"#),
+            (AskKind::CloseSql, r#"{"sql_id":7}"#),
+            (AskKind::Close, "{}"),
+        ],
+    );
 }
 
 #[test]
@@ -88,34 +96,38 @@ fn entries_come_back(rt: HostRuntime) {
 // The first kind of decline is told, wherever it stands, also in an entry before one that can be read.
 #[test]
 fn other_entries_are_declined(rt: HostRuntime) {
-    are_declined::<EntryTexts>(&rt, rt.alloc(), &[
-        (r#"{"type":"row","row":[]}"#, Decline::Shape),
-        (r#"[{"row":[]},{"type":"row","row":[]}]"#, Decline::Shape),
-        (r#"[{"type":"rows","row":[]}]"#, Decline::Shape),
-        (r#"[{"type":"row"}]"#, Decline::Shape),
-        (
-            r#"[{"type":"step_begin","step":4294967296,"cols":[]}]"#,
-            Decline::Range,
-        ),
-        (
-            r#"[{"type":"step_begin","step":0,"cols":[5,{"name":"a"}]}]"#,
-            Decline::Shape,
-        ),
-        (
-            r#"[{"type":"step_end","affected_row_count":0,"last_insert_rowid":7}]"#,
-            Decline::Shape,
-        ),
-        (
-            r#"[{"type":"step_error","step":0,"error":{}}]"#,
-            Decline::Shape,
-        ),
-        (
-            r#"[{"type":"row","row":[{"type":"float"}]},{"type":"step_end","affected_row_count":-1}]"#,
-            Decline::Range,
-        ),
-        (
-            r#"[{"type":"row","row":[{"type":"float"},{"type":"null"}]},{"type":"row","row":[]}]"#,
-            Decline::Float,
-        ),
-    ]);
+    are_declined::<ReadFail, EntryTexts>(
+        &rt,
+        rt.alloc(),
+        &[
+            (r#"{"type":"row","row":[]}"#, Decline::Shape),
+            (r#"[{"row":[]},{"type":"row","row":[]}]"#, Decline::Shape),
+            (r#"[{"type":"rows","row":[]}]"#, Decline::Shape),
+            (r#"[{"type":"row"}]"#, Decline::Shape),
+            (
+                r#"[{"type":"step_begin","step":4294967296,"cols":[]}]"#,
+                Decline::Range,
+            ),
+            (
+                r#"[{"type":"step_begin","step":0,"cols":[5,{"name":"a"}]}]"#,
+                Decline::Shape,
+            ),
+            (
+                r#"[{"type":"step_end","affected_row_count":0,"last_insert_rowid":7}]"#,
+                Decline::Shape,
+            ),
+            (
+                r#"[{"type":"step_error","step":0,"error":{}}]"#,
+                Decline::Shape,
+            ),
+            (
+                r#"[{"type":"row","row":[{"type":"float"}]},{"type":"step_end","affected_row_count":-1}]"#,
+                Decline::Range,
+            ),
+            (
+                r#"[{"type":"row","row":[{"type":"float"},{"type":"null"}]},{"type":"row","row":[]}]"#,
+                Decline::Float,
+            ),
+        ],
+    );
 }

@@ -42,47 +42,55 @@ impl Told<ReadFail> for ResultTexts {
 
 #[test]
 fn declines_come_in_order(rt: HostRuntime) {
-    are_declined::<StmtTexts>(&rt, rt.alloc(), &[
-        ("5", Decline::Shape),
-        ("{}", Decline::BothSql),
-        (r#"{"sql":5,"sql_id":9999999999}"#, Decline::Shape),
-        (r#"{"sql":"x","sql_id":9999999999}"#, Decline::BothSql),
-        (r#"{"sql_id":9999999999}"#, Decline::Range),
-        (r#"{"sql_id":-0}"#, Decline::Shape),
-        (r#"{"sql":"x","want_rows":0}"#, Decline::Shape),
-        (r#"{"sql":"x","args":{}}"#, Decline::Shape),
-        (r#"{"args":[{"type":"float"}]}"#, Decline::BothSql),
-        (
-            r#"{"sql":"x","args":[{"type":"float"},{"type":"null"},{"type":"null"}]}"#,
-            Decline::Float,
-        ),
-        (
-            r#"{"sql":"x","named_args":[{"name":1},{"name":"a","value":{"type":"null"}}]}"#,
-            Decline::Shape,
-        ),
-        (
-            r#"{"sql":"x","args":[{"type":"float"}],"named_args":[{"name":"a"}]}"#,
-            Decline::Shape,
-        ),
-    ]);
+    are_declined::<ReadFail, StmtTexts>(
+        &rt,
+        rt.alloc(),
+        &[
+            ("5", Decline::Shape),
+            ("{}", Decline::BothSql),
+            (r#"{"sql":5,"sql_id":9999999999}"#, Decline::Shape),
+            (r#"{"sql":"x","sql_id":9999999999}"#, Decline::BothSql),
+            (r#"{"sql_id":9999999999}"#, Decline::Range),
+            (r#"{"sql_id":-0}"#, Decline::Shape),
+            (r#"{"sql":"x","want_rows":0}"#, Decline::Shape),
+            (r#"{"sql":"x","args":{}}"#, Decline::Shape),
+            (r#"{"args":[{"type":"float"}]}"#, Decline::BothSql),
+            (
+                r#"{"sql":"x","args":[{"type":"float"},{"type":"null"},{"type":"null"}]}"#,
+                Decline::Float,
+            ),
+            (
+                r#"{"sql":"x","named_args":[{"name":1},{"name":"a","value":{"type":"null"}}]}"#,
+                Decline::Shape,
+            ),
+            (
+                r#"{"sql":"x","args":[{"type":"float"}],"named_args":[{"name":"a"}]}"#,
+                Decline::Shape,
+            ),
+        ],
+    );
 }
 
 #[test]
 fn statements_are_written_as_they_were_read(rt: HostRuntime) {
-    are_told::<ReadFail, StmtTexts>(&rt, rt.alloc(), &[
-        (
-            r#"{"sql":"SELECT 1","args":null,"want_rows":true}"#,
-            r#"{"sql":"SELECT 1"}"#,
-        ),
-        (
-            r#"{"x":1,"sql_id":-3,"want_rows":false}"#,
-            r#"{"sql_id":-3,"want_rows":false}"#,
-        ),
-        (
-            r#"{"sql":"x","named_args":[{"name":"a","value":{"type":"null"}}],"args":[{"type":"integer","value":"+5"}]}"#,
-            r#"{"args":[{"type":"integer","value":"5"}],"named_args":[{"name":"a","value":{"type":"null"}}],"sql":"x"}"#,
-        ),
-    ]);
+    are_told::<ReadFail, StmtTexts>(
+        &rt,
+        rt.alloc(),
+        &[
+            (
+                r#"{"sql":"SELECT 1","args":null,"want_rows":true}"#,
+                r#"{"sql":"SELECT 1"}"#,
+            ),
+            (
+                r#"{"x":1,"sql_id":-3,"want_rows":false}"#,
+                r#"{"sql_id":-3,"want_rows":false}"#,
+            ),
+            (
+                r#"{"sql":"x","named_args":[{"name":"a","value":{"type":"null"}}],"args":[{"type":"integer","value":"+5"}]}"#,
+                r#"{"args":[{"type":"integer","value":"5"}],"named_args":[{"name":"a","value":{"type":"null"}}],"sql":"x"}"#,
+            ),
+        ],
+    );
 }
 
 #[test]
@@ -105,7 +113,7 @@ fn results_are_written_as_they_were_read(rt: HostRuntime) {
         ),
     ];
     come_back::<ReadFail, ResultTexts>(&rt, rt.alloc(), &written);
-    are_declined::<ResultTexts>(&rt, rt.alloc(), &declined);
+    are_declined::<ReadFail, ResultTexts>(&rt, rt.alloc(), &declined);
 }
 
 // The error of this code as a text, where it is read again.
@@ -162,6 +170,9 @@ fn fits(alloc: Global, bytes: usize, count: usize) -> Option<bool> {
 fn limits_are_those_of_the_protocol(rt: HostRuntime) {
     limits_are();
     for (bytes, count, want) in [(65536, 255, true), (65537, 255, false), (65536, 256, false)] {
-        assert!(rt; fits(rt.alloc(), bytes, count) == Some(want), "at {bytes}, {count}");
+        assert!(rt;
+            fits(rt.alloc(), bytes, count) == Some(want),
+            "at {bytes}, {count}"
+        );
     }
 }

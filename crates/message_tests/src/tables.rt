@@ -8,6 +8,17 @@ pub trait Told<E> {
     fn told(alloc: Global, text: &str) -> Result<Txt, E>;
 }
 
+/// A failure by which a text is declined.
+pub trait Declines {
+    fn declined(decline: Decline) -> Self;
+}
+
+impl Declines for ReadFail {
+    fn declined(decline: Decline) -> ReadFail {
+        ReadFail::Declined(decline)
+    }
+}
+
 fn is_told<E: Drop, T: Told<E>>(alloc: Global, text: &str, want: &str) -> bool {
     match T::told(alloc, text) {
         Ok(told) => told.as_str() == want,
@@ -48,13 +59,13 @@ pub fn are_refused<E: PartialEq + Drop, T: Told<E>>(
 }
 
 /// Each text is declined as it says beside it.
-pub fn are_declined<T: Told<ReadFail>>(
+pub fn are_declined<E: Declines + PartialEq + Drop, T: Told<E>>(
     rt: &impl Abort,
     alloc: Global,
     cases: &[(&str, Decline)],
 ) {
     for (text, want) in cases {
-        let fail = ReadFail::Declined(*want);
-        assert!(rt; is_refused::<ReadFail, T>(alloc, text, &fail), "at {text}");
+        let fail = E::declined(*want);
+        assert!(rt; is_refused::<E, T>(alloc, text, &fail), "at {text}");
     }
 }

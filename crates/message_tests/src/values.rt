@@ -6,6 +6,7 @@ use hrana_value::{
 };
 use serde_json::Value as Json;
 use std::alloc::Global;
+use std::process::Abort;
 
 fn json_of(alloc: Global, text: &str) -> Result<Json, ReadFail> {
     match Json::from_str(alloc, text) {
@@ -42,48 +43,56 @@ impl Told<ReadFail> for ListTexts {
 
 #[test]
 fn values_are_read_and_written(rt: HostRuntime) {
-    are_told::<ReadFail, ValueTexts>(&rt, rt.alloc(), &[
-        (r#"{"type":"null"}"#, r#"{"type":"null"}"#),
-        (
-            r#"{"type":"integer","value":"+5"}"#,
-            r#"{"type":"integer","value":"5"}"#,
-        ),
-        (
-            r#"{"type":"integer","value":"-9223372036854775808","x":1.5}"#,
-            r#"{"type":"integer","value":"-9223372036854775808"}"#,
-        ),
-        (
-            r#"{"type":"text","value":"caf\u00e9"}"#,
-            r#"{"type":"text","value":"café"}"#,
-        ),
-        (
-            r#"{"type":"blob","base64":"AQ"}"#,
-            r#"{"base64":"AQ==","type":"blob"}"#,
-        ),
-        (
-            r#"{"type":"blob","base64":""}"#,
-            r#"{"base64":"","type":"blob"}"#,
-        ),
-    ]);
+    are_told::<ReadFail, ValueTexts>(
+        &rt,
+        rt.alloc(),
+        &[
+            (r#"{"type":"null"}"#, r#"{"type":"null"}"#),
+            (
+                r#"{"type":"integer","value":"+5"}"#,
+                r#"{"type":"integer","value":"5"}"#,
+            ),
+            (
+                r#"{"type":"integer","value":"-9223372036854775808","x":1.5}"#,
+                r#"{"type":"integer","value":"-9223372036854775808"}"#,
+            ),
+            (
+                r#"{"type":"text","value":"caf\u00e9"}"#,
+                r#"{"type":"text","value":"café"}"#,
+            ),
+            (
+                r#"{"type":"blob","base64":"AQ"}"#,
+                r#"{"base64":"AQ==","type":"blob"}"#,
+            ),
+            (
+                r#"{"type":"blob","base64":""}"#,
+                r#"{"base64":"","type":"blob"}"#,
+            ),
+        ],
+    );
 }
 
 #[test]
 fn other_values_are_declined(rt: HostRuntime) {
-    are_declined::<ValueTexts>(&rt, rt.alloc(), &[
-        (r#"{"type":"integer","value":""}"#, Decline::Shape),
-        (r#"{"type":"integer","value":"5 "}"#, Decline::Shape),
-        (r#"{"type":"integer","value":5}"#, Decline::Shape),
-        (
-            r#"{"type":"integer","value":"9223372036854775808"}"#,
-            Decline::Range,
-        ),
-        (r#"{"type":"text"}"#, Decline::Shape),
-        (r#"{"type":"blob","base64":"AR=="}"#, Decline::Shape),
-        (r#"{"type":"blob","base64":"AQ="}"#, Decline::Shape),
-        (r#"{"type":"float","value":"x"}"#, Decline::Float),
-        (r#"{"type":"Null"}"#, Decline::Shape),
-        ("[]", Decline::Shape),
-    ]);
+    are_declined::<ReadFail, ValueTexts>(
+        &rt,
+        rt.alloc(),
+        &[
+            (r#"{"type":"integer","value":""}"#, Decline::Shape),
+            (r#"{"type":"integer","value":"5 "}"#, Decline::Shape),
+            (r#"{"type":"integer","value":5}"#, Decline::Shape),
+            (
+                r#"{"type":"integer","value":"9223372036854775808"}"#,
+                Decline::Range,
+            ),
+            (r#"{"type":"text"}"#, Decline::Shape),
+            (r#"{"type":"blob","base64":"AR=="}"#, Decline::Shape),
+            (r#"{"type":"blob","base64":"AQ="}"#, Decline::Shape),
+            (r#"{"type":"float","value":"x"}"#, Decline::Float),
+            (r#"{"type":"Null"}"#, Decline::Shape),
+            ("[]", Decline::Shape),
+        ],
+    );
 }
 
 #[test]
@@ -107,7 +116,7 @@ fn lists_are_read_to_their_end(rt: HostRuntime) {
         ),
     ];
     are_told::<ReadFail, ListTexts>(&rt, rt.alloc(), &told);
-    are_declined::<ListTexts>(&rt, rt.alloc(), &declined);
+    are_declined::<ReadFail, ListTexts>(&rt, rt.alloc(), &declined);
 }
 
 fn is_optional(alloc: Global, json: &Json, want: Option<&str>) -> bool {
@@ -127,23 +136,31 @@ fn optional_texts_are_read(rt: HostRuntime) {
     assert!(rt; is_optional(alloc, &Json::Null, None));
 }
 
-// What a text gives as a number of each of three types.
-type Numbers = (
+// A text, and what it gives as a number of each of three types.
+type Numbers<'a> = (
+    &'a str,
     Result<i32, Decline>,
     Result<u32, Decline>,
     Result<u64, Decline>,
 );
 
-fn are_numbers(alloc: Global, text: &str, wants: Numbers) -> bool {
+fn are_numbers(alloc: Global, numbers: &Numbers) -> bool {
+    let (text, signed, short, long) = numbers;
     let Ok(json) = json_of(alloc, text) else {
         return false;
     };
-    (int32(&json), uint32(&json), uint64(&json)) == wants
+    int32(&json) == *signed && uint32(&json) == *short && uint64(&json) == *long
+}
+
+fn all_are_numbers(rt: &impl Abort, alloc: Global, cases: &[Numbers]) {
+    for case in cases {
+        assert!(rt; are_numbers(alloc, case), "at {}", case.0);
+    }
 }
 
 #[test]
 fn whole_numbers_are_read_or_declined(rt: HostRuntime) {
-    let cases = [
+    let cases: [Numbers; 6] = [
         ("7", Ok(7), Ok(7), Ok(7)),
         ("-1", Ok(-1), Err(Decline::Range), Err(Decline::Range)),
         (
@@ -171,9 +188,7 @@ fn whole_numbers_are_read_or_declined(rt: HostRuntime) {
             Err(Decline::Shape),
         ),
     ];
-    for (text, signed, short, long) in cases {
-        assert!(rt; are_numbers(rt.alloc(), text, (signed, short, long)), "at {text}");
-    }
+    all_are_numbers(&rt, rt.alloc(), &cases);
     assert!(rt; int64_of_text("007") == Ok(7));
     assert!(rt; int64_of_text("99999999999999999999x") == Err(Decline::Shape));
     assert!(rt; index_of(&["a", "b"], "b") == Some(1));
