@@ -106,7 +106,8 @@ with_stream c k id s = record {
   next = s.next;
   version = s.version;
   events = s.events;
-  now = s.now; stopped = s.stopped;
+  now = s.now;
+  stopped = s.stopped;
 }
 
 abbrev pub opens_unless : Bool → ℕ → Conn → ℤ → ℤ → State → Went
@@ -144,7 +145,8 @@ with_request c k stream n x id what s = record {
   next = s.next;
   version = s.version;
   events = s.events;
-  now = s.now; stopped = s.stopped;
+  now = s.now;
+  stopped = s.stopped;
 }
 
 abbrev pub queues : Option Ask → ℕ → Conn → ℤ → ℕ → Stream → ℤ → State → Went

@@ -18,17 +18,9 @@ const EXPIRIES: [(&[&str], usize, &str); 11] = [
     (&["BEGIN IMMEDIATE", "@ 9999"], 2, IN_TRANSACTION),
     (&["BEGIN IMMEDIATE", "@ 10000"], 2, ""),
     (&["BEGIN", "ROLLBACK", "@ 10000"], 0, AUTOCOMMIT),
-    (
-        &["@ 5000", "BEGIN IMMEDIATE", "@ 14999"],
-        2,
-        IN_TRANSACTION,
-    ),
+    (&["@ 5000", "BEGIN IMMEDIATE", "@ 14999"], 2, IN_TRANSACTION),
     (&["@ 5000", "BEGIN IMMEDIATE", "@ 15000"], 2, ""),
-    (
-        &["@ 20000", "BEGIN", "@ 1", "@ 29999"],
-        0,
-        IN_TRANSACTION,
-    ),
+    (&["@ 20000", "BEGIN", "@ 1", "@ 29999"], 0, IN_TRANSACTION),
     (&["@ 20000", "BEGIN", "@ 1", "@ 30000"], 0, ""),
     (&["BEGIN IMMEDIATE", "@ 18446744073709551615"], 2, ""),
 ];
@@ -46,7 +38,8 @@ fn played(alloc: Global, steps: &[&str], said: &str) -> Result<Scene, Fail> {
             scene.runs(1, 2, 1, step, EMPTY)?;
         }
     }
-    let asking = "> 1 {\"type\":\"request\",\"request_id\":3,\"request\":{\"type\":\"get_autocommit\",\"stream_id\":1}}\n";
+    let asking =
+        "> 1 {\"type\":\"request\",\"request_id\":3,\"request\":{\"type\":\"get_autocommit\",\"stream_id\":1}}\n";
     scene.line(asking, "")?;
     if said.is_empty() {
         scene.poll(1, 1, 3, "STREAM_LOST", "stream was lost")?;

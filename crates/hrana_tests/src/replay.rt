@@ -92,11 +92,7 @@ fn events_are_answered(rt: HostRuntime) -> Result<(), Fail> {
         ("-  1\n", Status::BadScript { line: 8 }, 7),
         ("@\n", Status::BadScript { line: 8 }, 7),
         ("@ 05\n", Status::BadScript { line: 8 }, 7),
-        (
-            "@ 18446744073709551616\n",
-            Status::BadScript { line: 8 },
-            7,
-        ),
+        ("@ 18446744073709551616\n", Status::BadScript { line: 8 }, 7),
         ("? 1 GET /v3 -\n", Status::BadScript { line: 8 }, 7),
     ] {
         let wanted = Wanted {

@@ -129,9 +129,11 @@ fn errors_are_bodies(rt: HostRuntime) -> Result<(), Fail> {
 }
 
 /// A pipeline whose first and last requests are declined, with a baton and without one, and the answer once two were replied to.
-const MIXED: &str = "{\"requests\":[{\"type\":\"sing\"},{\"type\":\"get_autocommit\"},{\"type\":\"close\"},{\"type\":\"describe\"}]}";
+const MIXED: &str =
+    "{\"requests\":[{\"type\":\"sing\"},{\"type\":\"get_autocommit\"},{\"type\":\"close\"},{\"type\":\"describe\"}]}";
 
-const RESULTS: &str = "[{\"error\":{\"code\":\"UNKNOWN_REQUEST\",\"message\":\"unknown request type\"},\"type\":\"error\"},{\"response\":{\"is_autocommit\":true,\"type\":\"get_autocommit\"},\"type\":\"ok\"},{\"response\":{\"type\":\"close\"},\"type\":\"ok\"},{\"error\":{\"code\":\"DESCRIBE_UNSUPPORTED\",\"message\":\"describe is not supported\"},\"type\":\"error\"}]";
+const RESULTS: &str =
+    "[{\"error\":{\"code\":\"UNKNOWN_REQUEST\",\"message\":\"unknown request type\"},\"type\":\"error\"},{\"response\":{\"is_autocommit\":true,\"type\":\"get_autocommit\"},\"type\":\"ok\"},{\"response\":{\"type\":\"close\"},\"type\":\"ok\"},{\"error\":{\"code\":\"DESCRIBE_UNSUPPORTED\",\"message\":\"describe is not supported\"},\"type\":\"error\"}]";
 
 /// The exchange of the pipeline, once its stream replied.
 fn replied(rt: &impl Abort, alloc: Global) -> Result<Exchange, Fail> {

@@ -2,8 +2,8 @@
 use hrana_stmt::{NamedArg, NamedArgs};
 use hrana_value::{Txt, Value, Values};
 use sql_text::{
-    BindFail, Class, Mode, PrepareFail, Prepared, SplitFail, StatementFail, bind,
-    class_of, limits_are, prepare, split, statement_of,
+    BindFail, Class, Mode, PrepareFail, Prepared, SplitFail, StatementFail, bind, class_of,
+    limits_are, prepare, split, statement_of,
 };
 use std::alloc::Global;
 use std::process::Abort;

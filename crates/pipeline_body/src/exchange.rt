@@ -29,22 +29,12 @@ pub fn read_ask(alloc: Global, ask: &HttpAsk, let_in: bool) -> Result<Asked, NoM
     ensures { IfOk result (IsAsked let_in ask.now) }
 {
     if !let_in {
-        return Ok(Asked::Answered(error_answer(
-            alloc,
-            401,
-            Code::Auth,
-            ask.close,
-        )?));
+        return Ok(Asked::Answered(error_answer(alloc, 401, Code::Auth, ask.close)?));
     }
     match decode_pipeline(alloc, ask.body.as_slice()) {
         Ok(body) => Ok(Asked::Pipeline(body)),
         Err(BodyFail::NoMemory) => Err(NoMemory),
-        Err(_) => Ok(Asked::Answered(error_answer(
-            alloc,
-            400,
-            Code::BadRequest,
-            ask.close,
-        )?)),
+        Err(_) => Ok(Asked::Answered(error_answer(alloc, 400, Code::BadRequest, ask.close)?)),
     }
 }
 

@@ -35,7 +35,8 @@ did g c = record {
   next = refl;
   version = refl;
   events = refl;
-  now = refl; stopped = refl;
+  now = refl;
+  stopped = refl;
 }
 
 pub returns-in-Some-clause-adds : goal.returns-in-Some-clause-adds
