@@ -62,7 +62,7 @@ saying c message s = record { given = tells c message; state = s }
 -- ---- connections
 
 abbrev pub with_conn : ℕ → Conn → State → State
-with_conn c k s = record { conns = put c k s.conns; streams = s.streams; opened = s.opened; next = s.next; version = s.version; events = s.events; now = s.now; stopped = s.stopped }
+with_conn c k s = record s { conns = put c k s.conns }
 
 abbrev pub greeted : Conn → Conn
 greeted k = record { greeted = true; closing = k.closing; texts = k.texts; ids = k.ids; streams = k.streams; outstanding = k.outstanding }
@@ -92,22 +92,17 @@ on_hello false c k s = closing c k (Some (Message (text_of (server.HelloError (e
 
 -- a stream that opens at this moment
 abbrev pub fresh : ℕ → ℕ → ℕ → Stream
-fresh now c n = record { conn = c; waits = []; last_answer = now; task = new_task (numbered n) false }
+fresh now c n = record { conn = c; waits = []; last_answer = now; session = None; task = new_task (numbered n) false }
 
 -- the connection with one more stream
 abbrev pub joined : ℤ → ℕ → Conn → Conn
 joined id n k = record { greeted = k.greeted; closing = k.closing; texts = k.texts; ids = id_placed id n k.ids; streams = k.streams ++ n ∷ []; outstanding = k.outstanding }
 
 abbrev pub with_stream : ℕ → Conn → ℤ → State → State
-with_stream c k id s = record {
+with_stream c k id s = record s {
   conns = put c (joined id (s.opened + 1) k) s.conns;
   streams = placed (s.opened + 1) (fresh s.now c (s.opened + 1)) s.streams;
   opened = s.opened + 1;
-  next = s.next;
-  version = s.version;
-  events = s.events;
-  now = s.now;
-  stopped = s.stopped;
 }
 
 abbrev pub opens_unless : Bool → ℕ → Conn → ℤ → ℤ → State → Went
@@ -131,22 +126,16 @@ unopened c id other s = saying c (refusal id code.StreamNotOpen) s
 
 -- the stream with one more request
 abbrev pub waiting : ℤ → Ask → Stream → Stream
-waiting id what x = record { conn = x.conn; waits = x.waits ++ id ∷ []; last_answer = x.last_answer; task = asked x.task what }
+waiting id what x = record x { waits = x.waits ++ id ∷ []; task = asked x.task what }
 
 -- the connection with one more request that waits. A close that arrived frees the id.
 abbrev pub waited : ℤ → Bool → Conn → Conn
 waited stream closes k = record { greeted = k.greeted; closing = k.closing; texts = k.texts; ids = cond closes (without_id stream k.ids) k.ids; streams = k.streams; outstanding = k.outstanding + 1 }
 
 abbrev pub with_request : ℕ → Conn → ℤ → ℕ → Stream → ℤ → Ask → State → State
-with_request c k stream n x id what s = record {
+with_request c k stream n x id what s = record s {
   conns = put c (waited stream (is_close what) k) s.conns;
   streams = put n (waiting id what x) s.streams;
-  opened = s.opened;
-  next = s.next;
-  version = s.version;
-  events = s.events;
-  now = s.now;
-  stopped = s.stopped;
 }
 
 abbrev pub queues : Option Ask → ℕ → Conn → ℤ → ℕ → Stream → ℤ → State → Went
@@ -210,6 +199,7 @@ pub record IsAfter (s : State) (old new : Seen) : Type 0 where
   pub state : new.state ≡ s
   pub token : new.token ≡ old.token
   pub noted : new.noted ≡ old.noted
+  pub store : new.store ≡ old.store
   pub turns : TurnsStay old new
 
 -- it went so, or there was no memory, and the state is as it was

@@ -39,7 +39,7 @@ let_go (n ∷ numbers) streams = let_go numbers (without n streams)
 
 -- the connection is gone, and its streams with it
 abbrev pub without_conn : ℕ → Conn → State → State
-without_conn c k s = record { conns = without c s.conns; streams = let_go k.streams s.streams; opened = s.opened; next = s.next; version = s.version; events = s.events; now = s.now; stopped = s.stopped }
+without_conn c k s = record s { conns = without c s.conns; streams = let_go k.streams s.streams }
 
 -- ---- all streams, in rising number
 
@@ -48,10 +48,20 @@ all_ends why [] = []
 all_ends why (entry ∷ entries) = end_of why (Some entry.1) ++ all_ends why entries
 
 abbrev pub at_its_end : State → State
-at_its_end s = record { conns = []; streams = []; opened = s.opened; next = s.next; version = s.version; events = s.events; now = s.now; stopped = true }
+at_its_end s = record s { conns = []; streams = []; exchanges = []; stopped = true }
+
+-- ---- a lost exchange
+
+-- its stream is gone with it
+abbrev pub without_lost : ℕ → ℕ → State → State
+without_lost c n s = record s { streams = without n s.streams; exchanges = without c s.exchanges }
 
 -- ---- what a lost connection frees
 
-abbrev pub Frees : ℕ → Option Conn → Seen → Type 0
-Frees c None new = Unit {0}
-Frees c (Some k) new = (at c new.state.conns ≡ None) × All (IsGone new) k.streams
+abbrev pub FreesExchange : ℕ → Option ℕ → Seen → Type 0
+FreesExchange c None new = Unit {0}
+FreesExchange c (Some n) new = (at c new.state.exchanges ≡ None) × IsGone new n
+
+abbrev pub Frees : ℕ → Option Conn → Option ℕ → Seen → Type 0
+Frees c None stream new = FreesExchange c stream new
+Frees c (Some k) stream new = (at c new.state.conns ≡ None) × All (IsGone new) k.streams

@@ -4,6 +4,8 @@ pub mod Texts
 pub mod Arrivals
 pub mod Polled
 pub mod Ended
+pub mod Exchanges
+pub mod Drawn
 pub mod Moments
 pub mod Step
 pub mod Settled

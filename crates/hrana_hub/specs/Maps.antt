@@ -23,10 +23,15 @@ placed n x entries = insert_entry nat_cmp entries n x
 abbrev pub without : {A : Type 0} → ℕ → Numbered A → Numbered A
 without n entries = remove_entry (is_at (nat_cmp n)) entries
 
--- each has become another
-abbrev pub each : {A : Type 0} → (A → A) → Numbered A → Numbered A
-each f [] = []
-each f (entry ∷ entries) = (entry.0, f entry.1) ∷ each f entries
+-- this stands at the number, where it is there
+abbrev pub and_left : {A : Type 0} → ℕ → Option A → Numbered A → Numbered A
+and_left n None entries = entries
+and_left n (Some x) entries = (n, x) ∷ entries
+
+-- each has become another, or is gone
+abbrev pub those_left : {A : Type 0} → (A → Option A) → Numbered A → Numbered A
+those_left f [] = []
+those_left f (entry ∷ entries) = and_left entry.0 (f entry.1) (those_left f entries)
 
 -- the first whose number is within a bound, and which passes a test
 abbrev pub first_that : {A : Type 0} → (ℕ → Bool) → (A → Bool) → Numbered A → Option ℕ

@@ -1,5 +1,5 @@
 -- Moments: when a stream is due, and what is left of it then.
-use Rattle.std.specs.Prelude.{◌≡◌, ◌≢◌, ◌≤◌, ◌-◌, ◌&&◌, not, nat_le, nat_lt, cond, ℕ, Bool, true, false, List, [], ◌∷◌, ◌++◌, Option, Some, MatchBool}
+use Rattle.std.specs.Prelude.{◌≡◌, ◌≢◌, ◌≤◌, ◌-◌, ◌&&◌, ◌||◌, not, nat_le, nat_lt, cond, ℕ, Bool, true, false, List, [], ◌∷◌, ◌++◌, Option, None, Some, MatchBool}
 use Rattle.txn_table.specs.Turns.{has}
 use Rattle.http_wire.specs.declared.outs.Outs.{Outs}
 use Rattle.engine_core.specs.declared.entries.Entry.{Entry}
@@ -11,8 +11,8 @@ use Rattle.stream_task.specs.declared.session.TxnState.TheVariants.{Deferred, Re
 use Rattle.hrana_hub.specs.declared.events.Event.{Event}
 use Rattle.hrana_hub.specs.declared.events.Event.TheVariants.{Lost, Moment}
 use Rattle.hrana_hub.specs.declared.limits.TheConstants.{EXPIRY_MS}
-use Rattle.hrana_hub.specs.Maps.{Numbered, at, each, first_that}
-use Rattle.hrana_hub.specs.State.{Stream, State, Seen}
+use Rattle.hrana_hub.specs.Maps.{Numbered, at, those_left, first_that}
+use Rattle.hrana_hub.specs.State.{Stream, State, Seen, of_exchanges}
 use Rattle.hrana_hub.specs.Ended.{end_of, Frees}
 
 -- ---- a stream that is due
@@ -24,17 +24,21 @@ is_begun (Reading unit had) = true
 is_begun (Writing unit) = true
 is_begun state = false
 
--- it holds a transaction and has nothing to do, and its last answer is so old
+-- It holds a transaction, or is a stream of exchanges; it has nothing to do, and its last answer is so old.
 abbrev pub is_due : ℕ → Stream → Bool
-is_due now x = is_begun x.task.session.state && not (is_waiting x.task.asks) && nat_le EXPIRY_MS (now - x.last_answer)
+is_due now x = (of_exchanges x || is_begun x.task.session.state) && not (is_waiting x.task.asks) && nat_le EXPIRY_MS (now - x.last_answer)
 
--- it is dead then, and does no more than answer
+-- a stream of a connection is dead then, and does no more than answer
 abbrev pub expired : Stream → Stream
-expired x = record { conn = x.conn; waits = x.waits; last_answer = x.last_answer; task = ended undo.Expired x.task }
+expired x = record x { task = ended undo.Expired x.task }
+
+-- a stream of exchanges is gone
+abbrev pub left_of : Stream → Option Stream
+left_of x = cond (of_exchanges x) None (Some (expired x))
 
 -- a stream after the moment
-abbrev pub after : ℕ → Stream → Stream
-after now x = cond (is_due now x) (expired x) x
+abbrev pub after : ℕ → Stream → Option Stream
+after now x = cond (is_due now x) (left_of x) (Some x)
 
 -- the first from this number on that is due
 abbrev pub first_due : ℕ → ℕ → Numbered Stream → Option ℕ
@@ -48,13 +52,13 @@ expiries now [] = []
 expiries now (entry ∷ entries) = cond (is_due now entry.1) (end_of undo.Expired (Some entry.1)) [] ++ expiries now entries
 
 abbrev pub at_moment : ℕ → State → State
-at_moment now s = record { conns = s.conns; streams = each (after now) s.streams; opened = s.opened; next = s.next; version = s.version; events = s.events; now = now; stopped = s.stopped }
+at_moment now s = record s { streams = those_left (after now) s.streams; now = now }
 
 -- ---- what a moment frees
 
--- the stream that was due is dead, and has nothing to do; it holds no turn, and waits for none
+-- the stream that was due is dead or gone, and has nothing to do; it holds no turn, and waits for none
 pub record HasExpired (h : Seen) (n : ℕ) (x : Stream) : Type 0 where
-  pub stream : at n h.state.streams ≡ Some (expired x)
+  pub stream : at n h.state.streams ≡ left_of x
   pub turn : h.turns.turn ≢ Some (numbered n)
   pub waits : has (numbered n) h.turns.waiters ≡ false
 
@@ -66,8 +70,8 @@ Expire now old new = (n : ℕ) (x : Stream) → at n old.state.streams ≡ Some 
 abbrev pub MomentFrees : ℕ → Seen → Seen → Type 0
 MomentFrees now old new = old.state.now ≤ now → Expire now old new
 
--- a lost connection is gone, and so are its streams; what a moment finds due is dead
+-- A lost connection is gone, and so are its streams, or that of its exchange. What a moment finds due is dead or gone.
 abbrev pub LossFrees : Event → Seen → Seen → Type 0
-LossFrees (Lost c) old new = Frees c (at c old.state.conns) new
+LossFrees (Lost c) old new = Frees c (at c old.state.conns) (at c old.state.exchanges) new
 LossFrees (Moment now) old new = MomentFrees now old new
 LossFrees event old new = Unit {0}

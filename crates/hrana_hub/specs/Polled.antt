@@ -64,7 +64,14 @@ answered_at now None before = before
 answered_at now (Some reply) before = now
 
 abbrev pub polled : ℕ → Option Reply → Task → Stream → Stream
-polled now reply task x = record { conn = x.conn; waits = still_wait reply x.waits; last_answer = answered_at now reply x.last_answer; task = task }
+polled now reply task x = record x { waits = still_wait reply x.waits; last_answer = answered_at now reply x.last_answer; task = task }
+
+abbrev pub with_task : Task → Stream → Stream
+with_task task x = record x { task = task }
+
+-- the stream once its first request was answered
+abbrev pub passed : ℕ → Stream → Stream
+passed now x = record x { waits = later_ids x.waits; last_answer = now }
 
 abbrev pub streams_left : Bool → ℕ → Stream → Numbered Stream → Numbered Stream
 streams_left over n x streams = cond over (without n streams) (put n x streams)
@@ -81,10 +88,10 @@ abbrev pub replied : ℕ → Bool → Option Reply → Conn → Conn
 replied n over reply k = record { greeted = k.greeted; closing = k.closing; texts = k.texts; ids = k.ids; streams = cond over (without_stream n k.streams) k.streams; outstanding = k.outstanding - replies reply }
 
 abbrev pub with_entry : Option Entry → State → State
-with_entry added s = record { conns = s.conns; streams = s.streams; opened = s.opened; next = next_by s.next added; version = version_by added s.version; events = s.events; now = s.now; stopped = s.stopped }
+with_entry added s = record s { next = next_by s.next added; version = version_by added s.version }
 
 abbrev pub with_streams : Numbered Stream → State → State
-with_streams streams s = record { conns = s.conns; streams = streams; opened = s.opened; next = s.next; version = s.version; events = s.events; now = s.now; stopped = s.stopped }
+with_streams streams s = record s { streams = streams }
 
 abbrev pub after_poll : ℕ → ℕ → Conn → Stream → Option Entry → Option Reply → Task → State → State
 after_poll n c k x added reply task s =
@@ -111,7 +118,7 @@ pub record Polled (shared : Bool) (s : State) (n c : ℕ) (x : Stream) (k : Conn
 
 -- the stream's requests are dropped
 abbrev pub dropped : Task → Stream → Stream
-dropped task x = record { conn = x.conn; waits = []; last_answer = x.last_answer; task = with_asks task task.session.state [] }
+dropped task x = record x { waits = []; task = with_asks task task.session.state [] }
 
 -- there was none for the poll, or none for the reply that it made
 abbrev pub FellShort : Poll Stepped → Type 0

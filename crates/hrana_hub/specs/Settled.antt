@@ -12,13 +12,10 @@ use Rattle.stream_task.specs.declared.task.Stepped.TheVariants as stepped
 use Rattle.hrana_hub.specs.Maps.{put}
 use Rattle.hrana_hub.specs.State.{Conn, Stream, State, states_of}
 use Rattle.hrana_hub.specs.Arrivals.{shut, with_conn}
-use Rattle.hrana_hub.specs.Polled.{Polled, PollFell, IsWriter, seen_of, reply_in, answer, is_over, is_closed, later_ids, polled, streams_left, replied, with_entry, with_streams, dropped, FellShort}
+use Rattle.hrana_hub.specs.Polled.{Polled, PollFell, IsWriter, seen_of, reply_in, answer, is_over, is_closed, with_task, passed, polled, streams_left, replied, with_entry, with_streams, dropped, FellShort}
 use Rattle.hrana_hub.specs.Step.{is_short, closes_short}
 
 -- ---- the poll
-
-abbrev pub with_task : Task → Stream → Stream
-with_task task x = record { conn = x.conn; waits = x.waits; last_answer = x.last_answer; task = task }
 
 -- The stream has the task that the poll left. The ids of its requests are as before.
 pub record PollsStream (shared : Bool) (s : State) (n : ℕ) (x : Stream) (added : List Entry) (result : Poll Stepped) (new : State) : Type 0 where
@@ -31,10 +28,6 @@ pub record PollsStream (shared : Bool) (s : State) (n : ℕ) (x : Stream) (added
   pub left : new ≡ with_entry entry (with_streams (put n (with_task task x) s.streams) s)
 
 -- ---- what it gave
-
--- the stream once its first request was answered
-abbrev pub passed : ℕ → Stream → Stream
-passed now x = record { conn = x.conn; waits = later_ids x.waits; last_answer = now; task = x.task }
 
 -- a stream that is over isn't let go of yet
 abbrev pub after_passed : ℕ → ℕ → Conn → Stream → Reply → State → State

@@ -7,24 +7,33 @@ use Rattle.ws_messages.specs.declared.messages.ClientMsg.{ClientMsg}
 use Rattle.ws_messages.specs.declared.messages.MsgFail.{MsgFail}
 use Rattle.http_wire.specs.declared.outs.Outs.{Outs}
 use Rattle.http_wire.specs.declared.limits.TheConstants.{MAX_BODY_BYTES}
+use Rattle.http_wire.specs.declared.asks.HttpAsk.{HttpAsk}
+use Rattle.http_wire.specs.declared.outs.HttpAnswer.{HttpAnswer}
+use Rattle.http_wire.specs.declared.outs.Out.{Out}
+use Rattle.http_wire.specs.declared.outs.Out.TheVariants.{Message, Answer}
+use Rattle.pipeline_body.specs.Exchanges.{route_answer}
+use Rattle.engine_core.specs.Draws.{Draw}
 use Rattle.engine_core.specs.declared.entries.Entry.{Entry}
 use Rattle.engine_core.specs.declared.entries.Undo.TheVariants as undo
 use Rattle.stream_task.specs.Polls.{is_waiting}
 use Rattle.hrana_hub.specs.declared.events.Event.{Event}
-use Rattle.hrana_hub.specs.declared.events.Event.TheVariants.{Opened, Text, Binary, Lost, Moment, Poll, Stop}
+use Rattle.hrana_hub.specs.declared.events.Event.TheVariants.{Opened, Text, Binary, Exchange, Lost, Moment, Poll, Stop}
 use Rattle.hrana_hub.specs.declared.limits.TheConstants.{MAX_CONNECTIONS, MAX_OUTSTANDING, MAX_EVENTS}
 use Rattle.hrana_hub.specs.Maps.{at, placed}
 use Rattle.hrana_hub.specs.State.{Conn, Stream, State, Seen}
 use Rattle.hrana_hub.specs.Arrivals.{Went, quiet, nothing, with_conn, shut, closing, on_answer, IsAfter}
 use Rattle.hrana_hub.specs.Polled.{Polled, PollFell}
-use Rattle.hrana_hub.specs.Ended.{ends_of, without_conn, all_ends, at_its_end}
+use Rattle.hrana_hub.specs.Ended.{end_of, ends_of, without_conn, without_lost, all_ends, at_its_end}
+use Rattle.hrana_hub.specs.Exchanges.{answering, empty_503, SessionPolled, SessionFell, Does, IsHeard}
+use Rattle.hrana_hub.specs.declared.sessions.Session.{Session}
+use Rattle.hrana_hub.specs.declared.sessions.Session.TheVariants.{Resting, Running}
 use Rattle.hrana_hub.specs.Moments.{expiries, at_moment}
 
 abbrev pub new_conn : Bool → Conn
 new_conn closing = record { greeted = false; closing = closing; texts = []; ids = []; streams = []; outstanding = 0 }
 
 abbrev pub with_new_conn : ℕ → Bool → State → State
-with_new_conn c closing s = record { conns = placed c (new_conn closing) s.conns; streams = s.streams; opened = s.opened; next = s.next; version = s.version; events = s.events; now = s.now; stopped = s.stopped }
+with_new_conn c closing s = record s { conns = placed c (new_conn closing) s.conns }
 
 -- no entry is added, and it goes so
 pub record Goes (went : Went) (added : List Entry) (out : Outs) (new : State) : Type 0 where
@@ -51,15 +60,26 @@ Heard s (Some k) Does added out new = MatchBool k.closing (Goes (quiet s) added 
 
 -- ---- polls
 
--- a stream that is unknown, has nothing to do, or is of a connection that isn't heard, isn't polled
+-- a stream that is unknown, has nothing to do, or is of a connection that isn't heard, isn't polled; nor is one of exchanges none
+-- of which runs
+abbrev pub PolledBy : Option Session → Bool → State → ℕ → Stream → List Entry → Outs → State → Type 0
+PolledBy None shared s n x added out new = Heard s (at x.conn s.conns) (λ k. Polled shared s n x.conn x k added out new) added out new
+PolledBy (Some (Resting baton)) shared s n x added out new = Goes (quiet s) added out new
+PolledBy (Some (Running e)) shared s n x added out new = SessionPolled shared s n x e added out new
+
 abbrev pub PolledAt : Bool → State → ℕ → Option Stream → List Entry → Outs → State → Type 0
 PolledAt shared s n None added out new = Goes (quiet s) added out new
-PolledAt shared s n (Some x) added out new = MatchBool (is_waiting x.task.asks) (Heard s (at x.conn s.conns) (λ k. Polled shared s n x.conn x k added out new) added out new) (Goes (quiet s) added out new)
+PolledAt shared s n (Some x) added out new = MatchBool (is_waiting x.task.asks) (PolledBy x.session shared s n x added out new) (Goes (quiet s) added out new)
 
 -- ---- ends
 
+-- the stream of the exchange is lost with it
+abbrev pub ExchangeLost : State → ℕ → Option ℕ → List Entry → Outs → State → Type 0
+ExchangeLost s c None added out new = Goes (quiet s) added out new
+ExchangeLost s c (Some n) added out new = (added ≡ end_of undo.Lost (at n s.streams)) × (out ≡ nothing) × (new ≡ without_lost c n s)
+
 abbrev pub LostAt : State → ℕ → Option Conn → List Entry → Outs → State → Type 0
-LostAt s c None added out new = Goes (quiet s) added out new
+LostAt s c None added out new = ExchangeLost s c (at c s.exchanges) added out new
 LostAt s c (Some k) added out new = (added ≡ ends_of undo.Lost k.streams s.streams) × (out ≡ nothing) × (new ≡ without_conn c k s)
 
 -- ---- moments
@@ -77,9 +97,10 @@ Happens token shared s (Binary c) added out new = Heard s (at c s.conns) (λ k. 
 Happens token shared s (Poll stream) added out new = PolledAt shared s stream.0 (at stream.0 s.streams) added out new
 Happens token shared s (Lost c) added out new = LostAt s c (at c s.conns) added out new
 Happens token shared s (Moment now) added out new = MomentAt s now added out new
+Happens token shared s (Exchange c ask) added out new = ⊥
 Happens token shared s Stop added out new = (added ≡ all_ends undo.Stop s.streams) × (out ≡ nothing) × (new ≡ at_its_end s)
 
--- ---- want of memory closes the connection with 1011
+-- ---- want of memory closes the connection with 1011, or is an empty answer 503
 
 abbrev pub closes_short : ℕ → Outs
 closes_short c = record { conn = c; out = None; close = Some 1011 }
@@ -93,9 +114,14 @@ abbrev pub PollFellOn : Bool → State → ℕ → Stream → Option Conn → Li
 PollFellOn shared s n x None added out new = ⊥
 PollFellOn shared s n x (Some k) added out new = (k.closing ≡ false) × PollFell shared s n x.conn x k added out new
 
+abbrev pub PollFellBy : Option Session → Bool → State → ℕ → Stream → List Entry → Outs → State → Type 0
+PollFellBy None shared s n x added out new = PollFellOn shared s n x (at x.conn s.conns) added out new
+PollFellBy (Some (Resting baton)) shared s n x added out new = ⊥
+PollFellBy (Some (Running e)) shared s n x added out new = SessionFell shared s n x e added out new
+
 abbrev pub PollFellAt : Bool → State → ℕ → Option Stream → List Entry → Outs → State → Type 0
 PollFellAt shared s n None added out new = ⊥
-PollFellAt shared s n (Some x) added out new = (is_waiting x.task.asks ≡ true) × PollFellOn shared s n x (at x.conn s.conns) added out new
+PollFellAt shared s n (Some x) added out new = (is_waiting x.task.asks ≡ true) × PollFellBy x.session shared s n x added out new
 
 -- the events that take memory
 abbrev pub Falls : Bool → State → Event → List Entry → Outs → State → Type 0
@@ -110,18 +136,46 @@ abbrev pub is_1011 : Option ℕ → Bool
 is_1011 None = false
 is_1011 (Some code) = nat_eq code 1011
 
+abbrev pub is_empty : List ℕ → Bool
+is_empty [] = true
+is_empty (byte ∷ bytes) = false
+
+abbrev pub is_empty_503 : Option Out → Bool
+is_empty_503 None = false
+is_empty_503 (Some (Message text)) = false
+is_empty_503 (Some (Answer answer)) = nat_eq answer.status 503 && is_empty answer.body
+
 abbrev pub is_short : Outs → Bool
-is_short out = is_1011 out.close
+is_short out = is_1011 out.close || is_empty_503 out.out
 
 abbrev pub counted : State → State
-counted s = record { conns = s.conns; streams = s.streams; opened = s.opened; next = s.next; version = s.version; events = s.events + 1; now = s.now; stopped = s.stopped }
+counted s = record s { events = s.events + 1 }
 
--- what comes of an event that was counted
+-- ---- an exchange
+
+-- nothing is drawn, and nothing changes but that it is answered
+abbrev pub ExchangeFell : State → ℕ → HttpAsk → List Draw → Outs → State → Type 0
+ExchangeFell s c ask draws out new = (draws ≡ []) × (out ≡ empty_503 c ask.close) × (new ≡ s)
+
+-- by its route alone, or else by whether it found memory
+abbrev pub ExchangeGoes : Option HttpAnswer → Option (List ℕ) → State → ℕ → HttpAsk → List Draw → Outs → State → Type 0
+ExchangeGoes (Some answer) token s c ask draws out new = (draws ≡ []) × Does (answering c answer s) out new
+ExchangeGoes None token s c ask draws out new = MatchBool (is_short out) (ExchangeFell s c ask draws out new) (IsHeard token s c ask draws out new)
+
+abbrev pub ExchangeSteps : Option (List ℕ) → State → ℕ → HttpAsk → List Draw → Outs → State → Type 0
+ExchangeSteps token s c ask draws out new = ExchangeGoes (route_answer ask) token s c ask draws out new
+
+-- what comes of an event that was counted, and isn't an exchange
 abbrev pub Comes : Option (List ℕ) → Bool → State → Event → List Entry → Outs → State → Type 0
 Comes token shared s event added out new = MatchBool (is_short out) (Falls shared s event added out new) (Happens token shared s event added out new)
 
-abbrev pub Step : Option (List ℕ) → Bool → State → Event → List Entry → Outs → State → Type 0
-Step token shared s event added out new = Comes token shared (counted s) event added out new
+-- Words are drawn for exchanges alone, and exchanges add no entry.
+abbrev pub ComesOf : Option (List ℕ) → Bool → State → Event → List Draw → List Entry → Outs → State → Type 0
+ComesOf token shared s (Exchange c ask) draws added out new = (added ≡ []) × ExchangeSteps token s c ask draws out new
+ComesOf token shared s event draws added out new = (draws ≡ []) × Comes token shared s event added out new
+
+abbrev pub Step : Option (List ℕ) → Bool → State → Event → List Draw → List Entry → Outs → State → Type 0
+Step token shared s event draws added out new = ComesOf token shared (counted s) event draws added out new
 
 -- a text, by whether it found memory
 abbrev pub TextSteps : Option (List ℕ) → State → ℕ → List ℕ → Outs → State → Type 0
@@ -153,10 +207,23 @@ abbrev pub is_unknown : Option Conn → Bool
 is_unknown None = true
 is_unknown (Some k) = false
 
+abbrev pub is_free : Option ℕ → Bool
+is_free None = true
+is_free (Some n) = false
+
+-- a connection of this number isn't known, over WebSocket or HTTP
+abbrev pub is_new : State → ℕ → Bool
+is_new s c = is_unknown (at c s.conns) && is_free (at c s.exchanges)
+
+-- one more connection may be known
+abbrev pub may_open : State → ℕ → Bool
+may_open s c = nat_lt 0 c && is_new s c && nat_lt (length s.conns + length s.exchanges) MAX_CONNECTIONS
+
 abbrev pub may_come : State → Event → Bool
-may_come s (Opened c) = nat_lt 0 c && is_unknown (at c s.conns) && nat_lt (length s.conns) MAX_CONNECTIONS
+may_come s (Opened c) = may_open s c
 may_come s (Text c text) = may_send (at c s.conns)
 may_come s (Binary c) = may_send (at c s.conns)
+may_come s (Exchange c ask) = may_open s c
 may_come s (Lost c) = true
 may_come s (Moment now) = true
 may_come s (Poll stream) = true

@@ -6,6 +6,7 @@ use Rattle.ws_messages.specs.Server.{answering}
 use Rattle.http_wire.specs.declared.outs.Outs.{Outs}
 use Rattle.http_wire.specs.declared.outs.Out.{Out}
 use Rattle.http_wire.specs.declared.outs.Out.TheVariants.{Message, Answer}
+use Rattle.engine_core.specs.Draws.{Draw}
 use Rattle.engine_core.specs.declared.entries.Entry.{Entry}
 use Rattle.engine_core.specs.declared.entries.Entry.TheVariants as entry
 use Rattle.stream_task.specs.Doing.{Session}
@@ -15,7 +16,7 @@ use Rattle.stream_task.specs.declared.work.Work.{Work}
 use Rattle.hrana_hub.specs.declared.events.Event.{Event}
 use Rattle.hrana_hub.specs.declared.events.Event.TheVariants.{Text, Poll, Moment}
 use Rattle.hrana_hub.specs.Maps.{at}
-use Rattle.hrana_hub.specs.State.{Conn, Stream, State}
+use Rattle.hrana_hub.specs.State.{Conn, Stream, State, of_exchanges}
 use Rattle.hrana_hub.specs.Arrivals.{text_of}
 use Rattle.hrana_hub.specs.Moments.{is_begun}
 use Rattle.hrana_hub.specs.Run.{Run, RunFrom, start, more}
@@ -118,9 +119,9 @@ abbrev pub meant : Bool → (ℕ → ℕ) → List Chapter → Session → List 
 meant shared had [] session asks used = replies shared had asks session used
 meant shared had (chapter ∷ chapters) session asks used = replies shared had chapter.asks chapter.start chapter.used ++ meant shared had chapters session asks used
 
-abbrev pub story : {token : Option (List ℕ)} {shared : Bool} {first : State} {events : List Event} {entries : List (List Entry)} {outs : List Outs} {s : State} → ℕ → RunFrom token shared first events entries outs s → Story
+abbrev pub story : {token : Option (List ℕ)} {shared : Bool} {first : State} {events : List Event} {drawn : List (List Draw)} {entries : List (List Entry)} {outs : List Outs} {s : State} → ℕ → RunFrom token shared first events drawn entries outs s → Story
 story n start = no_story
-story n (more {s = old} run event added out new fits step) = told_on n (story n run) event old added out new
+story n (more {s = old} run event draws added out new fits step) = told_on n (story n run) event old added out new
 
 -- ---- the versions at which units began
 
@@ -129,9 +130,9 @@ BeganAt had version (entry.Began unit by) = had unit ≡ version
 BeganAt had version e = Unit {0}
 
 -- each unit of the run began at this version: that of the state then
-abbrev pub AreVersions : {token : Option (List ℕ)} {shared : Bool} {first : State} {events : List Event} {entries : List (List Entry)} {outs : List Outs} {s : State} → (ℕ → ℕ) → RunFrom token shared first events entries outs s → Type 0
+abbrev pub AreVersions : {token : Option (List ℕ)} {shared : Bool} {first : State} {events : List Event} {drawn : List (List Draw)} {entries : List (List Entry)} {outs : List Outs} {s : State} → (ℕ → ℕ) → RunFrom token shared first events drawn entries outs s → Type 0
 AreVersions had start = Unit {0}
-AreVersions had (more {s = old} run event added out new fits step) = AreVersions had run × All (BeganAt had old.version) added
+AreVersions had (more {s = old} run event draws added out new fits step) = AreVersions had run × All (BeganAt had old.version) added
 
 -- ---- the law of replies
 
@@ -162,12 +163,12 @@ pub record IsHeard (s : State) (x : Stream) : Type 0 where
   pub known : at x.conn s.conns ≡ Some k
   pub unshut : k.closing ≡ false
 
--- In every run the replies of each stream stand in the order of its requests: while it is there and its connection isn't
+-- In every run the replies of each stream of a connection stand in the order of its requests: while it is there and its connection isn't
 -- closing none is left out, and whatever came of it, those that were told are the first of them.
 pub record InOrder (shared : Bool) (had : ℕ → ℕ) (t : Story) (s : State) (n : ℕ) : Type 0 where
-  pub whole : (x : Stream) → at n s.streams ≡ Some x → IsHeard s x → Tells shared had t x
+  pub whole : (x : Stream) → at n s.streams ≡ Some x → of_exchanges x ≡ false → IsHeard s x → Tells shared had t x
   pub front : HasTold shared had t
 
 abbrev pub RepliesInOrder : Type 0
-RepliesInOrder = (token : Option (List ℕ)) (shared : Bool) (events : List Event) (entries : List (List Entry)) (outs : List Outs) (s : State) (run : Run token shared events entries outs s) (had : ℕ → ℕ)
+RepliesInOrder = (token : Option (List ℕ)) (shared : Bool) (events : List Event) (drawn : List (List Draw)) (entries : List (List Entry)) (outs : List Outs) (s : State) (run : Run token shared events drawn entries outs s) (had : ℕ → ℕ)
     → AreVersions had run → (n : ℕ) → InOrder shared had (story n run) s n

@@ -1,4 +1,5 @@
 use hrana_value::{Bytes, StreamNo};
+use http_wire::HttpAsk;
 
 /// What comes to the hub.
 #[derive(Drop)]
@@ -9,6 +10,8 @@ pub enum Event {
     Text { conn: u32, text: Bytes },
     /// A binary message of a WebSocket connection.
     Binary { conn: u32 },
+    /// A request over HTTP, whose connection it brings.
+    Exchange { conn: u32, ask: HttpAsk },
     /// The connection is gone.
     Lost { conn: u32 },
     /// So many milliseconds have passed since some beginning.

@@ -14,6 +14,7 @@ mod limits;
 mod moments;
 mod outs;
 mod polls;
+mod sessions;
 mod slot;
 mod step;
 mod texts;
@@ -29,5 +30,5 @@ pub use laws::{
 };
 pub use limits::{
     EXPIRY_MS, MAX_CONNECTIONS, MAX_EVENTS, MAX_OUTSTANDING, MAX_STORED_BYTES, MAX_STORED_TEXTS,
-    MAX_STREAMS, limits_are,
+    MAX_SESSIONS, MAX_STREAMS, limits_are,
 };

@@ -7,6 +7,9 @@ pub const MAX_CONNECTIONS: usize = 64;
 /// The most streams of a connection, with those whose close waits.
 pub const MAX_STREAMS: usize = 128;
 
+/// The most streams of exchanges.
+pub const MAX_SESSIONS: usize = 256;
+
 /// The most requests of a connection that wait for their reply.
 pub const MAX_OUTSTANDING: u32 = 32;
 
@@ -26,6 +29,7 @@ pub const MAX_EVENTS: u64 = 4611686018427387903;
 pub fn limits_are()
     ensures max_connections { MAX_CONNECTIONS ≡ 64 }
     ensures max_streams { MAX_STREAMS ≡ 128 }
+    ensures max_sessions { MAX_SESSIONS ≡ 256 }
     ensures max_outstanding { MAX_OUTSTANDING ≡ 32 }
     ensures max_stored_texts { MAX_STORED_TEXTS ≡ 32 }
     ensures max_stored_bytes { MAX_STORED_BYTES ≡ 262144 }

@@ -9,6 +9,7 @@ mod cutting;
 mod laws;
 mod leads;
 mod outcomes;
+mod queued;
 mod replies;
 mod session;
 mod statement;
@@ -30,6 +31,7 @@ pub use leads::{
     streams_stand_at_first, version_alone_stands,
 };
 pub use session::{Cause, TxnState};
+pub use queued::Queued;
 pub use task::{Poll, Stepped, StreamTask, Task};
 pub use texts::{StoredText, StoredTexts, stored_text};
 pub use together::{

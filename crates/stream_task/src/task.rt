@@ -9,6 +9,7 @@ ghost use Rattle.stream_task.specs.Doing.{MayBeAsked};
 ghost use Rattle.stream_task.specs.Polls.{Task as Stream, Polls, Ends, new_task, with_asks, asked, asks_left, is_waiting, is_pending, answer_of, dead_cause, ended};
 
 use crate::advance::{Advanced, advance};
+use crate::queued::Queued;
 use crate::session::{Cause, TxnState};
 use crate::statement::end_unit;
 use crate::texts::StoredTexts;
@@ -173,6 +174,14 @@ impl StreamTask {
         let work = work_of(self.alloc, ask)?;
         self.queue.push_back(work)?;
         Ok(())
+    }
+
+    /// Asks these, in the place of what waits. Takes no memory.
+    pub fn ask_these(&mut self, queued: Queued)
+        ensures { self.new ≡ with_asks self.old self.old.session.state queued }
+    {
+        drop_work(self.running.take());
+        self.queue = queued.into_works();
     }
 
     /// The state of its transaction. Takes no memory.
