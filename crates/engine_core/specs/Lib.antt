@@ -1,5 +1,6 @@
 pub mod Causes
 pub mod Bytes
+pub mod Draws
 pub mod Engine
 pub mod Results
 pub mod Transactions
@@ -9,5 +10,6 @@ pub mod Noted
 pub mod Notes
 pub mod Plain
 pub mod PlainMeaning
+pub mod Readings
 pub mod Transfer
 pub mod Exit

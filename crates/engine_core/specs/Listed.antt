@@ -2,6 +2,7 @@
 use Rattle.std.specs.Prelude.{◌≡◌, ◌↔◌, ℕ, ◌+◌, ◌-◌, ◌^◌, min, drop, List, Contains, Bool, IsTrue, Result, OnOk, OnErr}
 use Rattle.engine_core.specs.declared.byte_source.ByteSource.{ByteSource}
 use Rattle.engine_core.specs.declared.byte_sink.ByteSink.{ByteSink}
+use Rattle.engine_core.specs.declared.count_tokens.CountTokens.{CountTokens}
 use Rattle.engine_core.specs.declared.failing.Failing.{Failing}
 use Rattle.engine_core.specs.declared.listed_calls.ListedCalls.{ListedCalls}
 
@@ -34,6 +35,12 @@ calls_of l = record { fail_at = l.fail_at.items; calls = l.calls }
 
 abbrev pub faults_of : ListedCalls → ℕ
 faults_of l = l.faults
+
+abbrev pub token_calls : CountTokens → Listed
+token_calls t = calls_of t.listed
+
+abbrev pub token_faults : CountTokens → ℕ
+token_faults t = faults_of t.listed
 
 abbrev pub engine_calls : {E D : Type 0} → Failing E D → Listed
 engine_calls f = calls_of f.listed
