@@ -19,7 +19,7 @@ use Rattle.baton_store.specs.declared.limits.TheConstants.{BATON_LIFE_MS}
 use Rattle.engine_core.specs.Draws.{Draw, words, failed}
 use Rattle.engine_core.specs.declared.entries.Entry.{Entry}
 use Rattle.stream_task.specs.Doing.{work_of}
-use Rattle.stream_task.specs.Polls.{Polls, Task, new_task, with_asks}
+use Rattle.stream_task.specs.Polls.{Polls, Task, new_task}
 use Rattle.stream_task.specs.Session.{is_shut}
 use Rattle.stream_task.specs.Together.{numbered}
 use Rattle.stream_task.specs.declared.task.Poll.{Poll}
@@ -32,6 +32,7 @@ use Rattle.hrana_hub.specs.declared.sessions.Issued.{Issued}
 use Rattle.hrana_hub.specs.declared.sessions.Running.{Running as Exchange}
 use Rattle.hrana_hub.specs.declared.sessions.Session.{Session}
 use Rattle.hrana_hub.specs.declared.sessions.Session.TheVariants.{Resting, Running}
+use Rattle.hrana_hub.specs.Askers.{asks_these}
 use Rattle.hrana_hub.specs.Maps.{Numbered, at, put, placed, without}
 use Rattle.hrana_hub.specs.State.{Stream, State, states_of, of_exchanges}
 use Rattle.hrana_hub.specs.Arrivals.{Went, quiet, accepts}
@@ -153,9 +154,6 @@ abbrev pub works_of : List Ask → List Work
 works_of [] = []
 works_of (what ∷ asks) = option_to_list (work_of what) ++ works_of asks
 
--- it is asked these
-abbrev pub asked_these : List Ask → Stream → Stream
-asked_these asks x = record x { task = with_asks x.task x.task.session.state (works_of asks) }
 
 abbrev pub with_exchange : ℕ → ℕ → State → State
 with_exchange c n s = record s { exchanges = placed c n s.exchanges }
@@ -163,7 +161,7 @@ with_exchange c n s = record s { exchanges = placed c n s.exchanges }
 -- Where nothing is left to poll the exchange is answered at once.
 abbrev pub starts_if : Bool → ℕ → Stream → List Ask → Exchange → State → Went
 starts_if true n x asks e s = hands_out n x e s
-starts_if false n x asks e s = quiet (with_exchange e.conn n (runs n (asked_these asks x) e s))
+starts_if false n x asks e s = quiet (with_exchange e.conn n (runs n (asks_these (works_of asks) x) e s))
 
 abbrev pub starts : ℕ → Stream → List Ask → Exchange → State → Went
 starts n x asks e s = starts_if (is_over e.exchange) n x asks e s

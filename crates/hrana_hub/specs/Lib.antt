@@ -4,6 +4,7 @@ pub mod Texts
 pub mod Arrivals
 pub mod Polled
 pub mod Ended
+pub mod Askers
 pub mod Exchanges
 pub mod Drawn
 pub mod Moments

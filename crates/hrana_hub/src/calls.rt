@@ -1,10 +1,10 @@
 // The calls of the hub beside `step`. None takes memory.
 ghost use Rattle.std.specs.Prelude.{◌≡◌, ◌≤◌, MatchOption, is_some, [], ◌∷◌, drop, Option, None, Some};
 ghost use Rattle.txn_table.specs.Turns.{first_waiter};
-ghost use Rattle.hrana_hub.specs.Calls.{room_at, is_heard, is_ready, first_ready};
+ghost use Rattle.hrana_hub.specs.Calls.{has_room_for, is_known, is_heard, is_ready, first_ready};
 ghost use Rattle.hrana_hub.specs.Maps.{at};
 ghost use Rattle.hrana_hub.specs.State.{with_state};
-ghost use Rattle.hrana_hub.specs.Step.{fits, may_come, may_send};
+ghost use Rattle.hrana_hub.specs.Step.{fits, may_come, may_open, may_send, is_free};
 
 use crate::events::Event;
 use crate::hub::Hub;
@@ -24,15 +24,22 @@ impl Hub {
         }
     }
 
+    fn may_open(&self, conn: u32) -> bool
+        ensures { result ≡ may_open self.now.state conn }
+    {
+        conn > 0
+            && !self.knows(conn)
+            && self.conns.len() + self.exchanges.len() < MAX_CONNECTIONS
+    }
+
     fn may_come(&self, event: &Event) -> bool
         ensures { result ≡ may_come self.now.state event.now }
     {
         match event {
-            Event::Opened { conn } => {
-                *conn > 0 && !self.knows(*conn) && self.conns.len() < MAX_CONNECTIONS
-            }
+            Event::Opened { conn } => self.may_open(*conn),
             Event::Text { conn, .. } => self.may_send(*conn),
             Event::Binary { conn } => self.may_send(*conn),
+            Event::Exchange { conn, .. } => self.may_open(*conn),
             Event::Lost { .. } => true,
             Event::Moment { .. } => true,
             Event::Poll { .. } => true,
@@ -50,21 +57,28 @@ impl Hub {
     }
 
     /// Whether something may be taken from the connection: it isn't closing, and has fewer than `MAX_OUTSTANDING` requests
-    /// that wait. One that isn't known has room.
+    /// that wait, and its exchange was answered. One that isn't known has room.
     pub fn room(&self, conn: u32) -> bool
-        ensures { result ≡ room_at (at conn self.now.state.conns) }
+        ensures { result ≡ has_room_for self.now.state conn }
     {
         match self.conns.get(conn) {
-            Some(known) => !known.is_closing() && known.has_room(),
-            None => true,
+            Some(known) => !known.is_closing() && known.has_room() && self.is_free(conn),
+            None => self.is_free(conn),
         }
     }
 
-    /// Whether the connection is known.
-    pub fn knows(&self, conn: u32) -> bool
-        ensures { result ≡ is_some (at conn self.now.state.conns) }
+    /// Whether no exchange that came in on the connection waits for its answer.
+    fn is_free(&self, conn: u32) -> bool
+        ensures { result ≡ is_free (at conn self.now.state.exchanges) }
     {
-        self.conns.get(conn).is_some()
+        self.exchanges.get(conn).is_none()
+    }
+
+    /// Whether the connection is known: one over WebSocket until it is lost, one over HTTP until its exchange is answered.
+    pub fn knows(&self, conn: u32) -> bool
+        ensures { result ≡ is_known self.now.state conn }
+    {
+        self.conns.get(conn).is_some() || self.exchanges.get(conn).is_some()
     }
 
     /// Whether the connection is known and isn't closing.
@@ -77,11 +91,11 @@ impl Hub {
         }
     }
 
-    /// Whether the stream has something to do, and its connection isn't closing.
+    /// Whether the stream has something to do, and is of exchanges, or its connection isn't closing.
     fn is_ready(&self, slot: &Slot) -> bool
         ensures { result ≡ is_ready self.now.state.conns slot.now }
     {
-        slot.is_waiting() && self.hears(slot.conn())
+        slot.is_waiting() && (slot.of_exchanges() || self.hears(slot.conn()))
     }
 
     /// The lowest stream above this number that has something to do, and whose connection isn't closing.

@@ -9,9 +9,10 @@ ghost use Rattle.hrana_hub.specs.State.{Conn, with_state};
 ghost use Rattle.hrana_hub.specs.Step.{Step, Happens, fits, counted};
 
 use crate::connections::Connections;
-use crate::events::Event;
+use crate::exchanges::Exchanges;
 use crate::slot::Slot;
-use engine_core::{Engine, Entries};
+use baton_store::BatonStore;
+use engine_core::Entries;
 use hrana_value::{NoMemory, Txt};
 use http_wire::{Out, Outs};
 use std::alloc::Global;
@@ -26,12 +27,17 @@ pub struct Hub {
     pub(crate) token: Option<Txt>,
     pub(crate) conns: Connections,
     pub(crate) slots: BTreeMap<u64, Slot>,
+    pub(crate) exchanges: Exchanges,
+    /// How many batons were issued.
+    pub(crate) issued: u64,
     pub(crate) opened: u64,
     pub(crate) events: u64,
     /// The greatest moment so far.
     pub(crate) moment: u64,
     pub(crate) stopped: bool,
     pub(crate) turns: TxnTable,
+    /// The batons that exchanges go on by.
+    pub(crate) store: BatonStore,
     pub(crate) entries: Entries,
 }
 
@@ -44,7 +50,7 @@ impl Model for Hub {
 
     ghost coded = { Prim.hlevel (codes, conditions.the_row.coded) };
 
-    ghost view = { λ h. record { token = h.token; state = record { conns = h.conns; streams = h.slots.entries; opened = h.opened; next = h.entries.next; version = h.turns.version; events = h.events; now = h.moment; stopped = h.stopped }; turns = h.turns; noted = h.entries } };
+    ghost view = { λ h. record { token = h.token; state = record { conns = h.conns; streams = h.slots.entries; exchanges = h.exchanges; issued = h.issued; opened = h.opened; next = h.entries.next; version = h.turns.version; events = h.events; now = h.moment; stopped = h.stopped }; turns = h.turns; store = h.store; noted = h.entries } };
 }
 
 impl Hub {
@@ -57,11 +63,14 @@ impl Hub {
             token,
             conns: Connections::new(alloc)?,
             slots: BTreeMap::new(alloc),
+            exchanges: Exchanges::new(alloc)?,
+            issued: 0,
             opened: 0,
             events: 0,
             moment: 0,
             stopped: false,
             turns: TxnTable::new(alloc)?,
+            store: BatonStore::new(alloc)?,
             entries: Entries::new(alloc)?,
         })
     }

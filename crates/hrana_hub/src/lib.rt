@@ -8,6 +8,8 @@ mod connection;
 mod connections;
 mod ends;
 mod events;
+mod exchange_arrivals;
+mod exchanges;
 mod hub;
 mod laws;
 mod limits;

@@ -31,7 +31,7 @@ impl Hub {
         None
     }
 
-    /// The stream expires. It holds no turn then, and waits for none.
+    /// The stream of a connection expires. It holds no turn then, and waits for none.
     fn expire<E: Engine>(&mut self, engine: &mut E, stream: u64)
         requires { HubAgrees E.told E.SHARED (E.db engine.old) (E.live engine.old) self.old }
         ensures adds { Adds E.told E.SHARED E.meaning E.db E.live E.faults engine.old engine.new self.old self.new (λ added. added ≡ end_of Undo.Expired (at stream self.old.state.streams)) }

@@ -1,5 +1,5 @@
 // A stream, with the requests that wait on it.
-ghost use Rattle.std.specs.Prelude.{◌≡◌, ◌<◌, ◌≤◌, ◌+◌, ◌-◌, ◌^◌, OnOk, OnErr, IfOk, false, Option, Some, None, IsTrue};
+ghost use Rattle.std.specs.Prelude.{◌≡◌, ◌<◌, ◌≤◌, ◌+◌, ◌-◌, ◌^◌, OnOk, OnErr, IfOk, IsSome, false, Option, Some, None, IsTrue};
 ghost use Rattle.txn_table.specs.Turns.{has};
 ghost use Rattle.stream_task.specs.Doing.{MayBeAsked};
 ghost use Rattle.stream_task.specs.Session.{is_shut, open_of};
@@ -8,18 +8,24 @@ ghost use Rattle.stream_task.specs.Together.{MayPoll, HasPolled, HasEnded};
 ghost use Rattle.hrana_hub.specs.Arrivals.{fresh, waiting};
 ghost use Rattle.hrana_hub.specs.Maps.{at, put, placed, without};
 ghost use Rattle.hrana_hub.specs.Moments.{is_begun, is_due, expired};
-ghost use Rattle.hrana_hub.specs.Polled.{first_id, dropped, is_closed};
-ghost use Rattle.hrana_hub.specs.Settled.{passed, with_task};
-ghost use Rattle.hrana_hub.specs.State.{Stream};
+ghost use Rattle.hrana_hub.specs.Askers.{asker_of, running_of, asks_these};
+ghost use Rattle.hrana_hub.specs.Exchanges.{fresh_session, in_session, with_reply};
+ghost use Rattle.hrana_hub.specs.Polled.{first_id, dropped, is_closed, passed, with_task};
+ghost use Rattle.hrana_hub.specs.State.{Stream, of_exchanges};
+ghost use Rattle.hrana_hub.specs.declared.sessions.Running.{Running};
+ghost use Rattle.hrana_hub.specs.declared.sessions.Session.{Session};
+ghost use Rattle.pipeline_body.specs.Exchanges.{is_over};
+ghost use Rattle.stream_requests.specs.Results.{IsPipelineReply};
 
 use crate::limits::EXPIRY_MS;
+use crate::sessions::{Issued, Running, Session};
 use engine_core::{Engine, Entries, Undo};
 use hrana_value::{NoMemory, StreamNo};
 use std::alloc::Global;
 use std::collections::{BTreeMap, VecDeque};
 use std::marker::Model;
-use stream_requests::Ask;
-use stream_task::{Poll, Stepped, StreamTask, Task, TxnState};
+use stream_requests::{Ask, Reply};
+use stream_task::{Poll, Queued, Stepped, StreamTask, Task, TxnState};
 use txn_table::TxnTable;
 
 /// A stream, with the ids of the requests that wait on it.
@@ -29,7 +35,19 @@ pub(crate) struct Slot {
     waits: VecDeque<i32>,
     /// The moment of its last answer, at first that of its opening.
     last_answer: u64,
+    /// What a stream of exchanges waits for. A stream of a connection has none.
+    session: Option<Session>,
     task: StreamTask,
+}
+
+/// Whom a stream answers.
+#[derive(Clone, Copy)]
+pub(crate) enum Asker {
+    Connection(u32),
+    /// The exchange that comes in on this connection, which is closed after the answer, or isn't.
+    Exchange { conn: u32, close: bool },
+    /// None of its exchanges runs.
+    Nobody,
 }
 
 impl Model for Slot {
@@ -41,7 +59,7 @@ impl Model for Slot {
 
     ghost coded = { Prim.hlevel (codes, conditions.the_row.coded) };
 
-    ghost view = { λ x. record { conn = x.conn; waits = x.waits.items; last_answer = x.last_answer; task = x.task } };
+    ghost view = { λ x. record { conn = x.conn; waits = x.waits.items; last_answer = x.last_answer; session = x.session; task = x.task } };
 }
 
 /// One more stream. Where there is no memory nothing changes.
@@ -95,6 +113,16 @@ fn is_begun(state: TxnState) -> bool
     }
 }
 
+fn is_shut(state: TxnState) -> bool
+    ensures { result ≡ is_shut state }
+{
+    match state {
+        TxnState::Dead(_) => true,
+        TxnState::Closed => true,
+        _ => false,
+    }
+}
+
 fn is_closed(state: TxnState) -> bool
     ensures { result ≡ is_closed state }
 {
@@ -113,14 +141,111 @@ impl Slot {
             conn,
             waits: VecDeque::new(alloc),
             last_answer: now,
+            session: None,
             task: StreamTask::new(alloc, StreamNo(stream), false)?,
         })
     }
 
+    /// A stream of exchanges that opens now, by one that comes in on this connection.
+    pub(crate) fn new_session(
+        alloc: Global,
+        now: u64,
+        conn: u32,
+        stream: u64,
+    ) -> Result<Slot, NoMemory>
+        ensures { IfOk result (λ slot. slot ≡ fresh_session now conn stream) }
+    {
+        Ok(Slot {
+            conn,
+            waits: VecDeque::new(alloc),
+            last_answer: now,
+            session: Some(Session::Resting(None)),
+            task: StreamTask::new(alloc, StreamNo(stream), true)?,
+        })
+    }
+
+    /// The connection that opened it.
     pub(crate) fn conn(&self) -> u32
         ensures { result ≡ self.now.conn }
     {
         self.conn
+    }
+
+    /// Whom it answers.
+    pub(crate) fn asker(&self) -> Asker
+        ensures { result ≡ asker_of self.now }
+    {
+        match &self.session {
+            None => Asker::Connection(self.conn),
+            Some(Session::Resting(_)) => Asker::Nobody,
+            Some(Session::Running(running)) => Asker::Exchange {
+                conn: running.conn,
+                close: running.close,
+            },
+        }
+    }
+
+    pub(crate) fn of_exchanges(&self) -> bool
+        ensures { result ≡ of_exchanges self.now }
+    {
+        self.session.is_some()
+    }
+
+    /// Whether it does no more than answer.
+    pub(crate) fn is_shut(&self) -> bool
+        ensures { result ≡ is_shut self.now.task.session.state }
+    {
+        is_shut(self.task.state())
+    }
+
+    /// It waits for the exchange that brings this baton from now on.
+    pub(crate) fn rest(&mut self, baton: Option<Issued>)
+        ensures { self.new ≡ in_session (Session.Resting baton) self.old }
+    {
+        self.session = Some(Session::Resting(baton));
+    }
+
+    /// An exchange begins, by which it is asked this.
+    pub(crate) fn run(&mut self, running: Running, queued: Queued)
+        ensures { self.new ≡ in_session (Session.Running running) (asks_these queued self.old) }
+    {
+        self.session = Some(Session::Running(running));
+        self.task.ask_these(queued);
+    }
+
+    /// The exchange that runs, which is answered now.
+    pub(crate) fn take_running(&mut self) -> Option<Running>
+        ensures running { result ≡ running_of self.old }
+        ensures slot { IsSome (running_of self.old) → self.new ≡ in_session (Session.Resting None) self.old }
+        ensures none { running_of self.old ≡ None → self.new ≡ self.old }
+    {
+        match self.session.take() {
+            Some(Session::Running(running)) => {
+                self.session = Some(Session::Resting(None));
+                Some(running)
+            }
+            other => {
+                self.session = other;
+                None
+            }
+        }
+    }
+
+    /// The exchange has one reply more. Answers whether each of its requests has its result. Where there is no memory the exchange is
+    /// of no use any more.
+    pub(crate) fn note(&mut self, alloc: Global, reply: Reply) -> Result<bool, NoMemory>
+        requires { IsPipelineReply reply }
+        ensures ok { OnOk result ((e : Running) → running_of self.old ≡ Some e → self.new ≡ in_session (Session.Running (with_reply reply e)) self.old) }
+        ensures over { IfOk result (λ over. (e : Running) → running_of self.old ≡ Some e → over ≡ is_over (with_reply reply e).exchange) }
+        ensures err { OnErr result ((session : Session) × (self.new ≡ in_session session self.old)) }
+    {
+        match &mut self.session {
+            Some(Session::Running(running)) => {
+                running.exchange.answered(alloc, reply)?;
+                Ok(running.exchange.is_over())
+            }
+            _ => Ok(false),
+        }
     }
 
     pub(crate) fn is_closed(&self) -> bool
@@ -201,11 +326,11 @@ impl Slot {
         self.task.end(engine, turns, entries, why);
     }
 
-    /// Whether it holds a transaction, has nothing to do, and gave its last answer long enough ago to expire.
+    /// Whether it holds a transaction or is of exchanges, has nothing to do, and gave its last answer long enough ago to expire.
     pub(crate) fn is_due(&self, now: u64) -> bool
         ensures { result ≡ is_due now self.now }
     {
-        is_begun(self.task.state())
+        (self.of_exchanges() || is_begun(self.task.state()))
             && !self.task.ready()
             && now.saturating_sub(self.last_answer) >= EXPIRY_MS
     }
