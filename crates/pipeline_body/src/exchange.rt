@@ -74,8 +74,7 @@ impl Model for Exchange {
     ghost use Rattle.std.specs.Coded.{codes};
     ghost use Rattle.hrana_batch.specs.contracts.conditions.Cond as conditions;
     ghost use Rattle.stream_requests.specs.Results.{IsPipelineReply};
-    ghost use Rattle.pipeline_body.specs.Batons.{blank};
-ghost use Rattle.pipeline_body.specs.Exchanges.{Progress};
+    ghost use Rattle.pipeline_body.specs.Exchanges.{Progress};
 
     ghost Value = { Progress };
 
