@@ -1,10 +1,9 @@
 -- A baton stands in an answer as it is, and all around it is the same for each baton.
-use Rattle.std.proofs.Common.{◌≡◌, ℕ, ◌<◌, ◌≤◌, ◌+◌, Bool, List, [], ◌∷◌, ◌++◌, None, Some, All, length, take, drop, codes, refl, sym, ap, ◌∙◌, append_assoc, arith}
-use Rattle.std.proofs.lemmas.Bool.{ne_eqb}
+use Rattle.std.proofs.Common.{◌≡◌, ℕ, ◌≤◌, Bool, true, List, [], ◌∷◌, ◌++◌, None, Some, All, length, take, drop, codes, refl, sym, ap, ◌∙◌, append_assoc, arith}
 use Rattle.std.proofs.lemmas.Bool.Decides.{nat_tests}
 use Rattle.std.proofs.lemmas.List.{length-append, take_at, drop_at}
 use Rattle.std.proofs.lemmas.List.Elements.{All-head, All-tail}
-use borrow.Rule.Slice.PartMut.{put_mid, post_of}
+use borrow.Rule.Slice.PartMut.{put_mid}
 use Rattle.json.specs.Print.{escape_byte, escape, quoted, token_text}
 use Rattle.json.specs.Token as token
 use Rattle.serde_json.specs.Data.{member, no_members}
@@ -36,7 +35,7 @@ front = 123 ∷ (quoted (codes "base_url") ++ 58 ∷ (token_text token.null ++ 4
 abbrev back : List Reply → List ℕ
 back results = 34 ∷ members_text true (member (codes "results") (results_data results) no_members)
 
-abbrev body_of : List Reply → List ℕ → List ℕ
+abbrev pub body_of : List Reply → List ℕ → List ℕ
 body_of results baton = compact_text (answer_data (record { baton = Some baton; results = results }))
 
 length-front : length front ≡ 26
