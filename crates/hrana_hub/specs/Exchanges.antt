@@ -1,5 +1,5 @@
 -- Exchanges over HTTP: what each does to its stream, and how it is answered.
-use Rattle.std.specs.Prelude.{◌≡◌, ◌≢◌, ◌+◌, ◌⊎◌, ℕ, Bool, true, false, nat_le, nat_lt, bytes_eq, cond, length, List, [], ◌∷◌, ◌++◌, Option, None, Some, option_to_list, MatchBool, MatchOption}
+use Rattle.std.specs.Prelude.{◌≡◌, ◌≢◌, ◌+◌, ◌<◌, ◌⊎◌, ℕ, Bool, true, false, nat_le, nat_lt, bytes_eq, cond, length, List, [], ◌∷◌, ◌++◌, Option, None, Some, option_to_list, MatchBool, MatchOption}
 use Rattle.hrana_value.specs.declared.StreamNo.{StreamNo}
 use Rattle.hrana_stmt.specs.declared.codes.Code.{Code}
 use Rattle.hrana_stmt.specs.declared.codes.Code.TheVariants as code
