@@ -10,6 +10,7 @@ pub mod Drawn
 pub mod Moments
 pub mod Step
 pub mod Settled
+pub mod ExchangeSettled
 pub mod Agrees
 pub mod Adds
 pub mod Calls

@@ -1,6 +1,6 @@
 -- One event of the hub: the state before it, the entries that it adds, what it gives, and the state after it. There is no
 -- table of turns in it: who writes is read off the streams.
-use Rattle.std.specs.Prelude.{◌≡◌, ◌≤◌, ◌+◌, ◌&&◌, ◌||◌, not, ℕ, Bool, true, false, nat_eq, nat_lt, List, [], length, Option, None, Some, Result, Ok, Err, MatchBool}
+use Rattle.std.specs.Prelude.{◌≡◌, ◌≤◌, ◌+◌, ◌&&◌, ◌||◌, not, ℕ, Bool, true, false, nat_eq, nat_lt, List, [], ◌∷◌, length, Option, None, Some, Result, Ok, Err, MatchBool}
 use Rattle.hrana_value.specs.declared.failures.NoMemory.{NoMemory}
 use Rattle.ws_messages.specs.Client.{ClientAnswer}
 use Rattle.ws_messages.specs.declared.messages.ClientMsg.{ClientMsg}
