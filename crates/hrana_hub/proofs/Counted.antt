@@ -6,6 +6,7 @@ use Rattle.stream_requests.specs.declared.asks.Ask.{Ask}
 use Rattle.stream_requests.specs.declared.asks.Ask.TheVariants as ask
 use Rattle.stream_requests.specs.declared.replies.Reply.{Reply}
 use Rattle.http_wire.specs.declared.outs.Outs.{Outs}
+use Rattle.engine_core.specs.Draws.{Draw}
 use Rattle.engine_core.specs.declared.entries.Entry.{Entry}
 use Rattle.stream_task.specs.Doing.{work_of}
 use Rattle.stream_task.specs.Laws.{HasNoClose, ClosesLast, ByCloses, ClosesAlone}
@@ -434,13 +435,13 @@ change_counts law shared s added out new kept pairs h (loses c k known ended lef
 change_counts law shared s added out new kept pairs h (expires moment ended left) = subst Counts (sym left) (expires_counts s moment h)
 change_counts law shared s added out new kept pairs h (ends ended left) = subst Counts (sym left) (record { conn = λ c k e. absurd (none_some e); stream = λ n x e. absurd (none_some e) })
 
-pub run_counts : {token : Option (List ℕ)} {shared : Bool} {events : List Event} {entries : List (List Entry)} {outs : List Outs} {s : State} → ClosesAlone → Run token shared events entries outs s → Counts s
+pub run_counts : {token : Option (List ℕ)} {shared : Bool} {events : List Event} {drawn : List (List Draw)} {entries : List (List Entry)} {outs : List Outs} {s : State} → ClosesAlone → Run token shared events drawn entries outs s → Counts s
 run_counts law start = record { conn = λ c k e. absurd (none_some e); stream = λ n x e. absurd (none_some e) }
-run_counts {token} {shared} law (more {s = before} run event added out new fit step) =
-    change_counts law shared (counted before) added out new (counted_kept before (run_kept run)) (run_paired run) (counted_counts before (run_counts law run)) (step_changes token shared before event added out new fit step)
+run_counts {token} {shared} law (more {s = before} run event draws added out new fit step) =
+    change_counts law shared (counted before) added out new (counted_kept before (run_kept run)) (run_paired run) (counted_counts before (run_counts law run)) (step_changes token shared before event draws added out new fit step)
 
 pub waits_counted : ClosesAlone → InEveryRun WaitsAreCounted
-waits_counted law token shared events entries outs s run =
+waits_counted law token shared events drawn entries outs s run =
     let kept = run_kept run in
     let h = run_counts law run in
     record {

@@ -4,6 +4,7 @@ use Rattle.std.proofs.lemmas.Bool.{cases_eq}
 use Rattle.std.proofs.lemmas.List.Elements.{All-nil, All-append, All-cons}
 use Rattle.stream_requests.specs.declared.asks.Ask.{Ask}
 use Rattle.http_wire.specs.declared.outs.Outs.{Outs}
+use Rattle.engine_core.specs.Draws.{Draw}
 use Rattle.engine_core.specs.declared.entries.Entry.{Entry}
 use Rattle.engine_core.specs.declared.entries.Undo.{Undo}
 use Rattle.engine_core.specs.declared.entries.Undo.TheVariants as undo
@@ -108,17 +109,17 @@ change_opened shared s added out new (loses c j known ended left) = same_opened 
 change_opened shared s added out new (expires moment ended left) = same_opened s new (ap (λ (t : State). t.opened) left)
 change_opened shared s added out new (ends ended left) = same_opened s new (ap (λ (t : State). t.opened) left)
 
-from_opened : {token : Option (List ℕ)} {shared : Bool} {first : State} {events : List Event} {entries : List (List Entry)} {outs : List Outs} {s : State} → RunFrom token shared first events entries outs s → first.opened ≤ s.opened
+from_opened : {token : Option (List ℕ)} {shared : Bool} {first : State} {events : List Event} {drawn : List (List Draw)} {entries : List (List Entry)} {outs : List Outs} {s : State} → RunFrom token shared first events drawn entries outs s → first.opened ≤ s.opened
 from_opened start = omega arith
-from_opened {token} {shared} (more {s = before} run event added out new fit step) =
-    let one : before.opened ≤ new.opened = change_opened shared (counted before) added out new (step_changes token shared before event added out new fit step) in
+from_opened {token} {shared} (more {s = before} run event draws added out new fit step) =
+    let one : before.opened ≤ new.opened = change_opened shared (counted before) added out new (step_changes token shared before event draws added out new fit step) in
     omega (arith, from_opened run, one)
 
-from_lasts : {token : Option (List ℕ)} {shared : Bool} {first : State} {events : List Event} {entries : List (List Entry)} {outs : List Outs} {s : State} (P : Option Stream → Type 0) → Lasts shared P → (n : ℕ) → Kept first → n ≤ first.opened → P (at n first.streams)
-    → RunFrom token shared first events entries outs s → P (at n s.streams)
+from_lasts : {token : Option (List ℕ)} {shared : Bool} {first : State} {events : List Event} {drawn : List (List Draw)} {entries : List (List Entry)} {outs : List Outs} {s : State} (P : Option Stream → Type 0) → Lasts shared P → (n : ℕ) → Kept first → n ≤ first.opened → P (at n first.streams)
+    → RunFrom token shared first events drawn entries outs s → P (at n s.streams)
 from_lasts P lasts n k l h start = h
-from_lasts {token} {shared} P lasts n k l h (more {s = before} run event added out new fit step) =
-    change_lasts shared P lasts n (counted before) added out new (counted_kept before (from_kept k run)) (omega (arith, l, from_opened run)) (from_lasts P lasts n k l h run) (step_changes token shared before event added out new fit step)
+from_lasts {token} {shared} P lasts n k l h (more {s = before} run event draws added out new fit step) =
+    change_lasts shared P lasts n (counted before) added out new (counted_kept before (from_kept k run)) (omega (arith, l, from_opened run)) (from_lasts P lasts n k l h run) (step_changes token shared before event draws added out new fit step)
 
 -- ---- what is gone, and what is dead
 
@@ -201,7 +202,7 @@ step_adds law token shared s (Poll stream) added out new change = change_adds la
 step_adds law token shared s Stop added out new change = change_adds law shared (counted s) added out new change
 
 pub dead_add_nothing : ShutAddsNothing → DeadAddNothing
-dead_add_nothing law token shared events entries outs s run = record {
+dead_add_nothing law token shared events drawn entries outs s run = record {
   gone = λ more_events more_entries more_outs new later n l e. from_lasts (λ o. o ≡ None) (gone_lasts shared) n (run_kept run) l e later;
   dead = λ more_events more_entries more_outs new later n l e. from_lasts (λ o. is_dead o ≡ true) (dead_lasts law shared) n (run_kept run) l e later;
   adds = λ event added out new fit step. step_adds law token shared s event added out new (step_changes token shared s event added out new fit step);

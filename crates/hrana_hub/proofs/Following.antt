@@ -4,6 +4,7 @@ use Rattle.std.proofs.lemmas.Bool.{cases_eq, and_parts, true≢false}
 use Rattle.hrana_value.specs.declared.StreamNo.{StreamNo}
 use Rattle.stream_requests.specs.declared.asks.Ask.{Ask}
 use Rattle.http_wire.specs.declared.outs.Outs.{Outs}
+use Rattle.engine_core.specs.Draws.{Draw}
 use Rattle.engine_core.specs.declared.entries.Entry.{Entry}
 use Rattle.stream_task.specs.Doing.{work_of}
 use Rattle.stream_task.specs.Laws.{TaskMeans}
@@ -250,12 +251,12 @@ counted_follows : (shared : Bool) (had : ℕ → ℕ) (n : ℕ) (t : Story) (s :
 counted_follows shared had n t s h = record { fresh = h.fresh; order = record { whole = λ x e i. h.order.whole x e (record { k = i.k; known = i.known; unshut = i.unshut }); front = h.order.front } }
 
 module _ (law : TaskMeans) where
-  run_follows : {token : Option (List ℕ)} {shared : Bool} {events : List Event} {entries : List (List Entry)} {outs : List Outs} {s : State} (run : Run token shared events entries outs s) (had : ℕ → ℕ) → AreVersions had run → (n : ℕ) → Follows shared had n (story n run) s
+  run_follows : {token : Option (List ℕ)} {shared : Bool} {events : List Event} {drawn : List (List Draw)} {entries : List (List Entry)} {outs : List Outs} {s : State} (run : Run token shared events drawn entries outs s) (had : ℕ → ℕ) → AreVersions had run → (n : ℕ) → Follows shared had n (story n run) s
   run_follows {shared} start had versions n = record { fresh = λ l. refl; order = record { whole = λ x e i. absurd (none_some e); front = none_front shared had } }
-  run_follows {token} {shared} (more {s = before} run event added out new fit step) had versions n =
+  run_follows {token} {shared} (more {s = before} run event draws added out new fit step) had versions n =
       subst (λ t. Follows shared had n t new) (told_counted n (story n run) event before added out new)
       (change_follows law shared had n (story n run) (counted before) (counted_kept before (run_kept run)) (run_paired run) (counted_follows shared had n (story n run) before (run_follows run had versions.0 n)) added out new versions.1
-      (step_changes token shared before event added out new fit step))
+      (step_changes token shared before event draws added out new fit step))
 
   pub replies_in_order : RepliesInOrder
-  replies_in_order token shared events entries outs s run had versions n = (run_follows run had versions n).order
+  replies_in_order token shared events drawn entries outs s run had versions n = (run_follows run had versions n).order

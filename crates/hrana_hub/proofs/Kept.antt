@@ -6,6 +6,7 @@ use Rattle.std.proofs.lemmas.List.Elements.{Contains-append_left, Contains-push,
 use Rattle.stream_requests.specs.declared.asks.Ask.{Ask}
 use Rattle.stream_requests.specs.declared.replies.Reply.{Reply}
 use Rattle.http_wire.specs.declared.outs.Outs.{Outs}
+use Rattle.engine_core.specs.Draws.{Draw}
 use Rattle.engine_core.specs.declared.entries.Entry.{Entry}
 use Rattle.hrana_hub.specs.declared.events.Event.{Event}
 use Rattle.hrana_hub.specs.declared.limits.TheConstants.{MAX_CONNECTIONS, MAX_STREAMS, MAX_OUTSTANDING}
@@ -311,12 +312,12 @@ change_kept shared s added out new h (loses c k known ended left) = subst Kept (
 change_kept shared s added out new h (expires moment ended left) = subst Kept (sym left) (expires_kept s moment h)
 change_kept shared s added out new h (ends ended left) = subst Kept (sym left) (ends_kept s)
 
-pub from_kept : {token : Option (List ℕ)} {shared : Bool} {first : State} {events : List Event} {entries : List (List Entry)} {outs : List Outs} {s : State} → Kept first → RunFrom token shared first events entries outs s → Kept s
+pub from_kept : {token : Option (List ℕ)} {shared : Bool} {first : State} {events : List Event} {drawn : List (List Draw)} {entries : List (List Entry)} {outs : List Outs} {s : State} → Kept first → RunFrom token shared first events drawn entries outs s → Kept s
 from_kept h start = h
-from_kept {token} {shared} h (more {s = before} run event added out new fit step) = change_kept shared (counted before) added out new (counted_kept before (from_kept h run)) (step_changes token shared before event added out new fit step)
+from_kept {token} {shared} h (more {s = before} run event draws added out new fit step) = change_kept shared (counted before) added out new (counted_kept before (from_kept h run)) (step_changes token shared before event draws added out new fit step)
 
-pub run_kept : {token : Option (List ℕ)} {shared : Bool} {events : List Event} {entries : List (List Entry)} {outs : List Outs} {s : State} → Run token shared events entries outs s → Kept s
+pub run_kept : {token : Option (List ℕ)} {shared : Bool} {events : List Event} {drawn : List (List Draw)} {entries : List (List Entry)} {outs : List Outs} {s : State} → Run token shared events drawn entries outs s → Kept s
 run_kept run = from_kept first_kept run
 
 pub limits : InEveryRun LimitsHold
-limits token shared events entries outs s run = (let h = run_kept run in record { connections = h.few; each = λ c k e. (h.conn c k e).within })
+limits token shared events drawn entries outs s run = (let h = run_kept run in record { connections = h.few; each = λ c k e. (h.conn c k e).within })

@@ -14,6 +14,11 @@ pub mod ArrivalAgreeing
 pub mod ArrivalAdding
 pub mod CallLemmas
 pub mod Listed
+pub mod WaitSums
+pub mod SessionSums
+pub mod Left
+pub mod Standing
+pub mod Touching
 pub mod Changes
 pub mod Kept
 pub mod Dead
@@ -23,5 +28,4 @@ pub mod Telling
 pub mod Following
 pub mod Versions
 pub mod IdLists
-pub mod WaitSums
 pub mod Counted

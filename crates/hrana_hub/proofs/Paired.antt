@@ -4,6 +4,7 @@ use Rattle.std.proofs.lemmas.Bool.{true≢false, and_parts}
 use Rattle.std.proofs.lemmas.List.{length_push}
 use Rattle.stream_requests.specs.declared.asks.Ask.{Ask}
 use Rattle.http_wire.specs.declared.outs.Outs.{Outs}
+use Rattle.engine_core.specs.Draws.{Draw}
 use Rattle.engine_core.specs.declared.entries.Entry.{Entry}
 use Rattle.stream_task.specs.Doing.{work_of}
 use Rattle.stream_task.specs.Polls.{Task, Polls, PollsAsks, is_waiting}
@@ -121,6 +122,6 @@ change_paired shared s added out new k h (expires moment ended left) = subst (λ
     subst Pairs (sym was.2) (after_paired moment was.0 (h n was.0 was.1)))
 change_paired shared s added out new k h (ends ended left) = subst (λ (t : State). EachPairs t.streams) (sym left) (λ n x e. absurd (none_some e))
 
-pub run_paired : {token : Option (List ℕ)} {shared : Bool} {events : List Event} {entries : List (List Entry)} {outs : List Outs} {s : State} → Run token shared events entries outs s → EachPairs s.streams
+pub run_paired : {token : Option (List ℕ)} {shared : Bool} {events : List Event} {drawn : List (List Draw)} {entries : List (List Entry)} {outs : List Outs} {s : State} → Run token shared events drawn entries outs s → EachPairs s.streams
 run_paired start = λ n x e. absurd (none_some e)
-run_paired {token} {shared} (more {s = before} run event added out new fit step) = change_paired shared (counted before) added out new (counted_kept before (run_kept run)) (run_paired run) (step_changes token shared before event added out new fit step)
+run_paired {token} {shared} (more {s = before} run event draws added out new fit step) = change_paired shared (counted before) added out new (counted_kept before (run_kept run)) (run_paired run) (step_changes token shared before event draws added out new fit step)
