@@ -323,7 +323,7 @@ ends_kept s = record {
 -- ---- exchanges
 
 -- what stands at the number is no stream of a connection
-not_session : (o : Option Stream) (x : Stream) → IsSession o → o ≡ Some x → of_exchanges x ≡ false → ⊥
+pub not_session : (o : Option Stream) (x : Stream) → IsSession o → o ≡ Some x → of_exchanges x ≡ false → ⊥
 not_session o x is e own = true≢false (sym (subst IsSession e is) ∙ own)
 
 touches_kept : (shared : Bool) (s new : State) (n : ℕ) → Kept s → s.opened ≤ new.opened → Touches shared s n new → Kept new
