@@ -25,6 +25,7 @@ pub mod Dead
 pub mod Answered
 pub mod Paired
 pub mod Telling
+pub mod Untold
 pub mod Following
 pub mod Versions
 pub mod IdLists
