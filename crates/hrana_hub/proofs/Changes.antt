@@ -45,10 +45,10 @@ use Rattle.hrana_hub.specs.State.{Conn, Stream, State, of_exchanges}
 use Rattle.hrana_hub.specs.Texts.{stored_bytes, without_text, put_text, put_stmt, put_steps, put_ask, as_execute, as_batch, as_sequence}
 use Rattle.hrana_hub.specs.Arrivals.{Went, quiet, nothing, accepts, on_hello, greeted, shut, with_texts, with_conn, closing, opens, opens_unless, with_stream, unopened, asks, asks_at, queues, with_request, stores, stores_unless, is_full, on_request, on_numbered, if_greeted, on_answer}
 use Rattle.hrana_hub.specs.Polled.{Polled, PollFell}
-use Rattle.hrana_hub.specs.Ended.{ends_of, without_conn, without_lost, all_ends, at_its_end}
+use Rattle.hrana_hub.specs.Ended.{ends_of, without_conn, all_ends, at_its_end}
 use Rattle.hrana_hub.specs.Exchanges.{SessionPolled, SessionFell, fresh_session, with_session, sessions_in, starts, opens_unless as session_opens, Does, IsHeard, GoesBy, GoesDrawn, GoesAsked}
 use Rattle.hrana_hub.specs.Moments.{expiries, at_moment}
-use Rattle.hrana_hub.specs.Step.{Step, Comes, ComesOf, Falls, Happens, Goes, ReadText, OpenText, Heard, PolledBy, PolledAt, ExchangeLost, LostAt, MomentAt, TextFell, PollFellAt, PollFellBy, PollFellOn, ExchangeFell, ExchangeGoes, is_short, counted, with_new_conn, has_room, may_send, is_unknown, is_free, is_new, may_open, may_come, fits}
+use Rattle.hrana_hub.specs.Step.{Step, ComesOf, Falls, Happens, Goes, ReadText, OpenText, Heard, PolledBy, PolledAt, ExchangeLost, LostAt, MomentAt, TextFell, PollFellAt, PollFellBy, PollFellOn, ExchangeFell, ExchangeGoes, is_short, counted, with_new_conn, has_room, may_send, is_unknown, is_free, is_new, may_open, may_come, fits}
 use Rattle.hrana_hub.specs.Stories.{told_by, text_in}
 use Rattle.hrana_hub.proofs.Standing.{Kept}
 use Rattle.hrana_hub.proofs.Touching.{Adding, arrives, polled, lost, Touches, Stands, stands_known, stands_fresh, starts_silent, starts_touches, session_polled_touches, session_fell_touches, session_polled_silent, lost_touches}

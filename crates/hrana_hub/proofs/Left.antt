@@ -1,17 +1,17 @@
 -- Where each entry of a map has become another, or is gone; and what a moment leaves of the streams.
-use Rattle.std.proofs.Common.{◌≡◌, ◌≢◌, ◌≤◌, ◌+◌, ◌||◌, ℕ, Bool, true, false, cond, List, [], ◌∷◌, length, Option, None, Some, refl, sym, ap, ◌∙◌, subst, arith, inl, inr, nat_cmp}
+use Rattle.std.proofs.Common.{◌≡◌, ◌≢◌, ◌≤◌, ◌+◌, ℕ, Bool, true, false, cond, [], ◌∷◌, Option, None, Some, refl, sym, ap, ◌∙◌, subst, arith, inl, inr, nat_cmp}
 use Rattle.std.specs.declared.cmp.Ordering.TheVariants.{Less}
 use Rattle.std.specs.List.{AllByRecursion}
 use Rattle.std.specs.List.Sorted.{IsStrictlySortedBy}
 use Rattle.std.specs.Map.{keys_of}
 use Rattle.std.proofs.lemmas.Bool.{cases_eq}
-use Rattle.hrana_hub.specs.Maps.{Numbered, at, without, and_left, those_left}
+use Rattle.hrana_hub.specs.Maps.{Numbered, at, and_left, those_left}
 use Rattle.hrana_hub.specs.State.{Stream, of_exchanges}
 use Rattle.hrana_hub.specs.Exchanges.{sessions_in}
 use Rattle.hrana_hub.specs.Laws.{waits_of}
 use Rattle.hrana_hub.specs.Moments.{is_due, expired, left_of, after}
 use Rattle.hrana_hub.proofs.EntryLemmas.{at_without, without_first}
-use Rattle.hrana_hub.proofs.MapLemmas.{none_some, some_one, at_first, at_later, Rises, rises_tail}
+use Rattle.hrana_hub.proofs.MapLemmas.{none_some, at_first, at_later, Rises, rises_tail}
 use Rattle.hrana_hub.proofs.WaitSums.{share, share_idle}
 
 -- ---- numbers that rise

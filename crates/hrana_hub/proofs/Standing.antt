@@ -1,5 +1,5 @@
 -- What holds of connections and streams after every step: numbers rise, limits hold, and streams and connections name each other.
-use Rattle.std.proofs.Common.{◌≡◌, ◌≤◌, ◌<◌, ◌+◌, ℕ, true, false, length, Option, None, Some, Contains}
+use Rattle.std.proofs.Common.{◌≡◌, ◌≤◌, ◌<◌, ◌+◌, ℕ, true, false, length, None, Some, Contains}
 use Rattle.hrana_hub.specs.declared.limits.TheConstants.{MAX_CONNECTIONS, MAX_SESSIONS}
 use Rattle.hrana_hub.specs.Maps.{Numbered, at}
 use Rattle.hrana_hub.specs.State.{Conn, Stream, State, of_exchanges}

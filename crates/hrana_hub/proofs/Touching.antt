@@ -1,5 +1,5 @@
 -- What exchanges do to the streams: one stream of exchanges comes, goes on or goes, and all else stays.
-use Rattle.std.proofs.Common.{◌≡◌, ◌≢◌, ◌≤◌, ◌<◌, ◌+◌, ◌⊎◌, ℕ, Bool, true, false, cond, nat_le, List, [], ◌∷◌, length, Option, None, Some, option_to_list, refl, sym, ap, ◌∙◌, subst, arith, inl, inr}
+use Rattle.std.proofs.Common.{◌≡◌, ◌≢◌, ◌≤◌, ◌<◌, ◌+◌, ◌⊎◌, ℕ, Bool, true, false, List, [], length, Option, None, Some, option_to_list, refl, sym, ap, ◌∙◌, subst, arith, inl, inr}
 use Rattle.std.proofs.lemmas.Bool.{cases_order}
 use Rattle.hrana_value.specs.declared.StreamNo.{StreamNo}
 use Rattle.stream_requests.specs.declared.asks.Ask.{Ask}
@@ -19,24 +19,21 @@ use Rattle.stream_task.specs.declared.task.Stepped.{Stepped}
 use Rattle.hrana_hub.specs.declared.events.Event.{Event}
 use Rattle.hrana_hub.specs.declared.events.Event.TheVariants.{Exchange, Lost, Poll}
 use Rattle.hrana_hub.specs.declared.limits.TheConstants.{MAX_CONNECTIONS, MAX_SESSIONS}
-use Rattle.hrana_hub.specs.declared.sessions.Issued.{Issued}
 use Rattle.hrana_hub.specs.declared.sessions.Running.{Running as Runs}
-use Rattle.hrana_hub.specs.declared.sessions.Session.TheVariants.{Resting, Running}
 use Rattle.hrana_hub.specs.Maps.{Numbered, at, put, placed, without}
 use Rattle.hrana_hub.specs.State.{Conn, Stream, State, of_exchanges}
 use Rattle.hrana_hub.specs.Arrivals.{Went}
-use Rattle.hrana_hub.specs.Askers.{asks_these}
-use Rattle.hrana_hub.specs.Polled.{reply_in, seen_of, passed, dropped, with_task, with_entry, later_ids}
+use Rattle.hrana_hub.specs.Polled.{reply_in, seen_of, with_task, with_entry, later_ids}
 use Rattle.hrana_hub.specs.Ended.{end_of, without_lost}
-use Rattle.hrana_hub.specs.Exchanges.{SessionPolled, SessionFell, in_session, fresh_session, with_session, starts, starts_if, works_of, with_reply, replies_to, proceeds_if, concludes, gives_up, sessions_in}
+use Rattle.hrana_hub.specs.Exchanges.{SessionPolled, SessionFell, fresh_session, with_session, starts, starts_if, with_reply, replies_to, proceeds_if, concludes, gives_up, sessions_in}
 use Rattle.hrana_hub.specs.Laws.{is_dead, waits_of}
 use Rattle.hrana_hub.specs.Stories.{text_in}
 use Rattle.hrana_hub.proofs.EntryLemmas.{at_put, at_put_other, at_without, at_without_other, rising_without, without_unknown}
-use Rattle.hrana_hub.proofs.Listed.{apart_none, length_placed, length_without, placed_cases, without_cases}
-use Rattle.hrana_hub.proofs.MapLemmas.{none_some, some_one, at_placed, at_placed_other, Rises, rises_put, rises_placed}
+use Rattle.hrana_hub.proofs.Listed.{length_placed, length_without, placed_cases, without_cases}
+use Rattle.hrana_hub.proofs.MapLemmas.{none_some, at_placed, at_placed_other, Rises, rises_put, rises_placed}
 use Rattle.hrana_hub.proofs.SessionSums.{sessions_put, sessions_without, sessions_placed}
 use Rattle.hrana_hub.proofs.Standing.{OfSession, Kept}
-use Rattle.hrana_hub.proofs.WaitSums.{share, share_idle, sum_put, sum_without, sum_placed}
+use Rattle.hrana_hub.proofs.WaitSums.{share_idle, sum_put, sum_without, sum_placed}
 
 -- ---- what the event adds
 
