@@ -25,3 +25,4 @@ pub mod Versions
 pub mod IdLists
 pub mod WaitSums
 pub mod Counted
+pub mod Tied

@@ -9,6 +9,7 @@ mod connections;
 mod ends;
 mod events;
 mod exchange_arrivals;
+mod exchange_polls;
 mod exchanges;
 mod hub;
 mod laws;
