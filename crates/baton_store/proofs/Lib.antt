@@ -1,5 +1,5 @@
 -- Where the clauses are proved that the check doesn't prove by itself:
---   baton_of: text, ascii; number_of        text/, by TextLemmas
+--   baton_of: text, ascii, symbols; number_of    text/, by TextLemmas
 --   place_of, live_place                    store/, by StoreLemmas, ListLemmas
 --   BatonStore::due                         store/{lower_due, lowest_due}, by StoreLemmas; that moments rise in store/still_rise
 --   BatonStore::issue: takes no memory      store/BatonStore/issue, by room_for of StoreLemmas over length-contained of ListLemmas

@@ -1,7 +1,7 @@
 // The store: which batons were issued and not used.
 ghost use Rattle.std.specs.Prelude.{◌≡◌, ◌+◌, ◌-◌, ◌^◌, ◌<◌, ◌≤◌, ◌∷◌, ◌++◌, ◌↔◌, [], List, IsTrue, All, AllPairs, IfOk, OnOk, OnErr, Contains};
 ghost use Rattle.std.specs.Str.{IsAscii};
-ghost use Rattle.baton_store.specs.Text.{text_of};
+ghost use Rattle.baton_store.specs.Text.{text_of, IsSymbol};
 ghost use Rattle.baton_store.specs.declared.store.Unused.{Unused};
 ghost use Rattle.baton_store.specs.Batons.{no_batons, with_place, with_baton, without, HasNone, Redeems, Frees, Lives, IsNamed, IsDueAmong, IsPlaceOf, IsLivePlace, MomentsRise};
 
@@ -183,6 +183,7 @@ impl BatonStore {
         requires few { self.old.issued < 2 ^ 64 - 1 }
         ensures text { result.text ≡ text_of (self.old.issued + 1) words }
         ensures ascii { IsAscii result.text }
+        ensures symbols { All IsSymbol result.text }
         ensures store { self.new ≡ with_baton self.old stream words now }
     {
         self.issued += 1;

@@ -1,8 +1,13 @@
 // Exchanges over HTTP: what a request is answered with before its stream is asked, and the results of a pipeline.
+ghost use Rattle.std.specs.Prelude.{◌↔◌, IsTrue, All};
+ghost use Rattle.pipeline_body.specs.Batons.{IsPlain};
+
 use hrana_stmt::Code;
 use hrana_value::{Bytes, NoMemory, Txt};
 use http_wire::{Allow, HttpAnswer, HttpAsk, Method};
-use pipeline_body::{Asked, Exchange, empty_answer, error_answer, read_ask, route_answer};
+use pipeline_body::{
+    Asked, Exchange, decode_pipeline, empty_answer, error_answer, read_ask, route_answer,
+};
 use std::alloc::Global;
 use std::process::Abort;
 use std::test::Fail;
@@ -160,4 +165,61 @@ fn declined_requests_have_results_in_their_places(rt: HostRuntime) -> Result<(),
     let shut = replied(&rt, alloc)?.into_answer(alloc, None, true)?;
     let text = format!(in alloc; "{{\"base_url\":null,\"baton\":null,\"results\":{RESULTS}}}")?;
     compare(&rt, &shut, 200, None, text.as_str(), true)
+}
+
+fn is_plain(byte: u8) -> bool
+    ensures { IsTrue result ↔ IsPlain byte }
+{
+    byte >= 32 && byte <= 126 && byte != b'"' && byte != b'\\'
+}
+
+fn are_plain(text: &[u8]) -> bool
+    ensures { IsTrue result ↔ All IsPlain text.now }
+{
+    text.iter().all(|byte| is_plain(*byte))
+}
+
+/// Whether the pipeline, whose requests are all declined, is answered so, with the baton put in the place of a blank one.
+fn is_put(alloc: Global, body: &str, baton: &[u8; 32], want: &str) -> bool {
+    if !are_plain(baton) {
+        return false;
+    }
+    let Ok(body) = decode_pipeline(alloc, body.as_bytes()) else {
+        return false;
+    };
+    let Ok(begun) = Exchange::begin(alloc, body.asks) else {
+        return false;
+    };
+    let Ok(blank) = begun.exchange.into_blank_answer(alloc, true) else {
+        return false;
+    };
+    let answer = blank.with_baton(baton);
+    answer.status == 200 && answer.close && answer.body.as_slice() == want.as_bytes()
+}
+
+fn are_put(rt: &impl Abort, alloc: Global, rows: &[(&str, &[u8; 32], &str)]) {
+    for (body, baton, want) in rows {
+        assert!(rt; is_put(alloc, body, baton, want), "at {want}");
+    }
+}
+
+/// Each baton is the URL-safe base64 of 24 bytes.
+#[test]
+fn batons_are_put_into_answers(rt: HostRuntime) {
+    are_put(
+        &rt,
+        rt.alloc(),
+        &[
+            (
+                "{\"requests\":[]}",
+                b"AAAAAAAAAAEAAAAAAAAAAAAAAAAAAAAA",
+                "{\"base_url\":null,\"baton\":\"AAAAAAAAAAEAAAAAAAAAAAAAAAAAAAAA\",\"results\":[]}",
+            ),
+            (
+                "{\"requests\":[{\"type\":\"sing\"}]}",
+                b"AAAAAAAAAAEBAgMEBQYHCP_-_fz7-vn4",
+                "{\"base_url\":null,\"baton\":\"AAAAAAAAAAEBAgMEBQYHCP_-_fz7-vn4\",\"results\":[{\"error\":{\"code\":\"UNKNOWN_REQUEST\",\"message\":\"unknown request type\"},\"type\":\"error\"}]}",
+            ),
+        ],
+    );
 }

@@ -1,10 +1,10 @@
 -- The results of a pipeline, one for each of its requests.
-use Rattle.std.proofs.Common.{◌≡◌, ◌≤◌, ◌+◌, ℕ, Bool, true, false, nat_eq, length, map, drop, List, [], ◌∷◌, ◌++◌, Option, None, Some, refl, sym, ap, ◌∙◌, append-nil, append_assoc, arith}
+use Rattle.std.proofs.Common.{◌≡◌, ◌≤◌, nat_eq, length, map, List, [], ◌∷◌, ◌++◌, Option, None, Some, refl, sym, ap, ◌∙◌, append-nil, append_assoc, arith}
 use Rattle.hrana_value.specs.declared.failures.Decline.{Decline}
 use Rattle.stream_requests.specs.declared.replies.Reply.{Reply}
 use Rattle.pipeline_body.specs.declared.bodies.PipeAsk.{PipeAsk}
 use Rattle.pipeline_body.specs.declared.bodies.PipeAsk.TheVariants as pipe
-use Rattle.pipeline_body.specs.Exchanges.{Progress, passed, place_of, declined, answered, after, results_of, asked_in, is_over, EachHasItsResult}
+use Rattle.pipeline_body.specs.Exchanges.{Progress, passed, place_of, declined, after, results_of, asked_in, is_over, EachHasItsResult}
 
 -- the results stand, and it is over exactly where no request is left
 record Stands (done : List Reply) (asks : List PipeAsk) (replies : List Reply) (p : Progress) : Type 0 where

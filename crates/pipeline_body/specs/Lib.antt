@@ -4,3 +4,4 @@ pub mod Failures
 pub mod Requests
 pub mod Written
 pub mod Exchanges
+pub mod Batons

@@ -1,9 +1,11 @@
 // One exchange over HTTP: what a request asks, and the results of a pipeline as its stream replies.
-ghost use Rattle.std.specs.Prelude.{◌≡◌, ◌≢◌, ◌++◌, [], map, All, IfOk, OnOk};
+ghost use Rattle.std.specs.Prelude.{◌≡◌, ◌≢◌, ◌++◌, [], Some, map, All, IfOk, OnOk};
 ghost use Rattle.stream_requests.specs.Results.{IsPipelineReply};
+ghost use Rattle.pipeline_body.specs.Batons.{blank};
 ghost use Rattle.pipeline_body.specs.Exchanges.{IsAsked, IsUnreadable, EachHasItsResult, Progress, begins, asked_in, answered, passed, declined, is_over, pipeline_answer, code_of_decline, place_of};
 
 use crate::answers::encode_pipeline_answer;
+use crate::batons::{BlankAnswer, blank_answer};
 use crate::bodies::{BodyFail, PipeAsk, PipeAsks, PipelineAnswer, PipelineBody, Replies};
 use crate::pipelines::decode_pipeline;
 use crate::routes::{bytes_of, error_answer};
@@ -163,6 +165,14 @@ impl Exchange {
             body: bytes_of(text),
             close,
         })
+    }
+
+    /// The answer with the results and a blank baton, in whose place the one of the stream is put once it is known.
+    pub fn into_blank_answer(self, alloc: Global, close: bool) -> Result<BlankAnswer, NoMemory>
+        ensures { IfOk result (λ answer. answer ≡ pipeline_answer self.results (Some blank) close) }
+    {
+        let Exchange { results, .. } = self;
+        blank_answer(alloc, results, close)
     }
 }
 

@@ -2,6 +2,7 @@
 #![tactic(auto)]
 
 mod answers;
+mod batons;
 mod bodies;
 mod exchange;
 mod forms;
@@ -15,6 +16,7 @@ pub use answers::{
     decode_pipeline_answer, encode_pipeline_answer, no_bytes_have_two_answer_readings,
     no_tree_is_two_pipeline_answers, pipeline_answers_are_read,
 };
+pub use batons::BlankAnswer;
 pub use bodies::{BodyFail, PipeAsk, PipeAsks, PipelineAnswer, PipelineBody, Replies};
 pub use exchange::{
     Asked, Begun, Exchange, code_of_decline, each_request_has_its_result, read_ask,
