@@ -28,7 +28,8 @@ use Rattle.stream_task.specs.declared.session.TxnState.{TxnState}
 use Rattle.stream_task.specs.declared.session.TxnState.TheVariants.{Auto, Deferred, Reading, Writing, Dead, Closed}
 use Rattle.hrana_hub.specs.declared.limits.TheConstants.{MAX_STREAMS}
 use Rattle.hrana_hub.specs.Agrees.{HubAgrees, IsNumbered, IsAhead, open_units}
-use Rattle.hrana_hub.specs.Arrivals.{Went, quiet, accepts, on_hello, closing, with_conn, shut, fresh, opens, opens_unless, with_stream, unopened, asks, asks_at, queues, waiting, with_request, stores, stores_unless, is_full, on_request, on_numbered, if_greeted, on_answer, TurnsStay, IsAfter}
+use Rattle.hrana_hub.specs.Arrivals.{Went, quiet, accepts, on_hello, closing, with_conn, shut, fresh, opens, opens_unless, with_stream, unopened, asks, asks_at, queues, waiting, with_request, stores, stores_unless, on_request, on_numbered, if_greeted, on_answer, TurnsStay, IsAfter}
+use Rattle.stream_task.specs.Texts.{is_full}
 use Rattle.hrana_hub.specs.Maps.{Numbered, at, put, placed, id_at}
 use Rattle.hrana_hub.specs.State.{Conn, Stream, State, Seen, states_of, state_in}
 use Rattle.hrana_hub.specs.Step.{Goes, ReadText, OpenText, TextFell, Heard, TextSteps, BinarySteps, is_short, with_new_conn}

@@ -101,6 +101,8 @@ next_undone seen why state = tt
 next_does : (shared : Bool) (stream : StreamNo) (seen : Seen) (s : Session) (t : Todo) (added : Option Entry) (result : Advanced) → Does shared stream seen s t added result → IsNext seen added
 next_does shared stream seen s (todo.Answer a) added result h = none_next seen added h.no_entry
 next_does shared stream seen s (todo.Poll running) added result h = next_statement shared stream seen s.state s.texts h.stmt added h.went h.polls
+next_does shared stream seen s (todo.StoreSql text) added result h = none_next seen added h.no_entry
+next_does shared stream seen s (todo.CloseSql id) added result h = none_next seen added h.no_entry
 next_does shared stream seen s todo.Close added result h = subst (IsNext seen) (sym h.undone) (next_undone seen _ s.state)
 
 next_work : (shared : Bool) (stream : StreamNo) (seen : Seen) (s : Session) (w : Work) (added : Option Entry) (result : Advanced) → PollsWork shared stream seen s w added result → IsNext seen added

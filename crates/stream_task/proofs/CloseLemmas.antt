@@ -15,12 +15,13 @@ use Rattle.engine_core.specs.declared.entries.Entry.{Entry}
 use Rattle.engine_core.specs.declared.entries.Entry.TheVariants as entry
 use Rattle.stream_task.specs.Session.{is_auto, is_shut}
 use Rattle.stream_task.specs.Checks.{ready_of, text_of}
+use Rattle.stream_task.specs.Texts.{store_refusal}
 use Rattle.stream_task.specs.Table.{Seen, plan, takes, takes_alone, begun_by, takes_begun, takes_ran, takes_upgrade, takes_ended, state_after, left_by}
 use Rattle.stream_task.specs.Steps.{is_skipped}
 use Rattle.stream_task.specs.Adds.{PollsStatement, ReadyPolls, PlanPolls, Falls}
 use Rattle.stream_task.specs.Doing.{Session, steps_of_text}
 use Rattle.stream_task.specs.Means.{ends_with}
-use Rattle.stream_task.specs.Advance.{Does, PollsWork, todo_of, open_todo, shut_todo, running_todo, sequence_todo, closed_todo, steps_rest, replied_or, outcome_leaves, Leaves, state_left}
+use Rattle.stream_task.specs.Advance.{Does, PollsWork, todo_of, open_todo, shut_todo, running_todo, sequence_todo, closed_todo, store_todo, steps_rest, replied_or, outcome_leaves, Leaves, state_left}
 use Rattle.stream_task.specs.Polls.{Task, PollsAsks, answer_of, asks_left}
 use Rattle.stream_task.specs.Laws.{is_close, HasNoClose, ClosesLast, ByCloses, ClosesAlone}
 use Rattle.stream_task.specs.declared.session.TxnState.{TxnState}
@@ -156,8 +157,8 @@ statement_unclosed shared stream seen s texts stmt added (went.Short u) o h = fa
 abbrev FitsTodo : TxnState → Work → Todo → Type 0
 FitsTodo state w (todo.Answer (Replied r next)) = (next ≡ state) ⊎ ((w ≡ work.Close) × (r ≡ reply.Closed))
 FitsTodo state w (todo.Answer other) = ⊥
-FitsTodo state w (todo.Poll running) = Unit {0}
 FitsTodo state w todo.Close = w ≡ work.Close
+FitsTodo state w other = Unit {0}
 
 running_fits : (w : Work) (k : Kind) (left : List Step) (done : List Outcome) (state : TxnState) → FitsTodo state w (running_todo state (Steps k (record { left = left; done = done })))
 running_fits w k [] done state = inl refl
@@ -174,11 +175,17 @@ sequence_fits : (w : Work) (text : Option (List ℕ)) (state : TxnState) → Fit
 sequence_fits w None state = inl refl
 sequence_fits w (Some text) state = closed_fits w text (unclosed_at text) state
 
+store_fits : (w : Work) (text : StoredText) (refusal : Option Code) (state : TxnState) → FitsTodo state w (store_todo state text refusal)
+store_fits w text (Some c) state = inl refl
+store_fits w text None state = tt
+
 open_fits : (s : Session) (w : Work) → FitsTodo s.state w (open_todo s w)
 open_fits s (work.Running (Statement stmt)) = tt
 open_fits s (work.Running (Steps k r)) = running_fits (work.Running (Steps k r)) k r.left r.done s.state
 open_fits s (work.Sequence text) = sequence_fits (work.Sequence text) (text_of s.texts text) s.state
 open_fits s work.GetAutocommit = inl refl
+open_fits s (work.StoreSql text) = store_fits (work.StoreSql text) text (store_refusal s.texts text) s.state
+open_fits s (work.CloseSql id) = tt
 open_fits s work.Close = refl
 
 shut_fits : (state : TxnState) (w : Work) → FitsTodo state w (shut_todo state w)
@@ -246,6 +253,8 @@ does_by shared stream seen s w (todo.Answer (Broke next)) added a o f h = absurd
 does_by shared stream seen s w (todo.Poll running) added a o f h =
     stays_by s.state w a (runs_left running h.went a h.leaves)
     (ap is_closed (sym (leaves_as running s.state h.went a h.leaves).state) ∙ statement_unclosed shared stream seen s.state s.texts h.stmt added h.went o h.polls)
+does_by shared stream seen s w (todo.StoreSql text) added a o f h = subst (ByClose s.state w) (sym h.answer) (stays_by s.state w (Replied reply.SqlStored s.state) refl o)
+does_by shared stream seen s w (todo.CloseSql id) added a o f h = subst (ByClose s.state w) (sym h.answer) (stays_by s.state w (Replied reply.SqlClosed s.state) refl o)
 does_by shared stream seen s w todo.Close added a o f h = subst (ByClose s.state w) (sym h.answer) (record { left = refl; closed = λ e. (f, refl) })
 
 work_by : (shared : Bool) (stream : StreamNo) (seen : Seen) (s : Session) (w : Work) (added : Option Entry) (a : Advanced) → is_closed s.state ≡ false → PollsWork shared stream seen s w added a → ByClose s.state w a

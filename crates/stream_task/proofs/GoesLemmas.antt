@@ -338,6 +338,8 @@ goes_does shared s seen session (todo.Answer a) added result starts d = left_is 
 goes_does shared s seen session (todo.Poll running) added result starts d =
     subst (λ x. Goes shared seen session.state added (Some x)) (leaves_as running session.state d.went result d.leaves).state
     (goes_statement shared s seen session.state session.texts d.stmt added d.went d.polls)
+goes_does shared s seen session (todo.StoreSql text) added result starts d = left_is shared seen session.state added None result _ d.no_entry d.answer (goes_same shared seen session.state)
+goes_does shared s seen session (todo.CloseSql id) added result starts d = left_is shared seen session.state added None result _ d.no_entry d.answer (goes_same shared seen session.state)
 goes_does shared s seen session todo.Close added result starts d = left_is shared seen session.state added _ result _ d.undone d.answer (goes_undone shared seen undo.Close session.state (Some Closed) refl)
 
 goes_work : (shared : Bool) (s : StreamNo) (seen : Seen) (session : Session) (w : Work) (added : Option Entry) (result : Advanced) → PollsWork shared s seen session w added result → Goes shared seen session.state added (Some (state_left session.state result))

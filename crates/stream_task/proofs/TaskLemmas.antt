@@ -6,7 +6,7 @@ use Rattle.stream_task.specs.Session.{is_shut}
 use Rattle.stream_task.specs.Table.{Seen, IsVersioned}
 use Rattle.stream_task.specs.Doing.{Session}
 use Rattle.stream_task.specs.Means.{Meant}
-use Rattle.stream_task.specs.Advance.{Does, PollsWork, todo_of, shut_todo, state_left}
+use Rattle.stream_task.specs.Advance.{Does, PollsWork, todo_of, shut_todo, state_left, session_left}
 use Rattle.stream_task.specs.Polls.{Task, PollsAsks, answer_of, task_after}
 use Rattle.stream_task.specs.Laws.{IsAfter, then_replies, replies, said_by, TaskMeans, ShutAddsNothing}
 use Rattle.stream_task.specs.declared.session.TxnState.{TxnState}
@@ -23,12 +23,12 @@ use Rattle.stream_task.specs.declared.task.Stepped.{Stepped}
 use Rattle.stream_task.specs.declared.task.Stepped.TheVariants as stepped
 use Rattle.stream_task.proofs.RequestLemmas.{poll_means}
 
-after_leaves : (shared : Bool) (had : ℕ → ℕ) (task : Task) (ws more : List Work) (meant : Meant) (a : Advanced) (rest : List Entry) → IsAfter shared had task.session meant a rest → answer_of a ≢ Ready stepped.Broke
-    → then_replies meant (λ next es. replies shared had (ws ++ more) next es) ≡ said_by (answer_of a) ++ replies shared had ((task_after task ws a).asks ++ more) (task_after task ws a).session rest
-after_leaves shared had task ws more meant (Waits left) rest m n = ap (λ x. then_replies x (λ next es. replies shared had (ws ++ more) next es)) m
-after_leaves shared had task ws more meant (Ran left next) rest m n = ap (λ x. then_replies x (λ next es. replies shared had (ws ++ more) next es)) m
-after_leaves shared had task ws more meant (Replied r next) rest m n = ap (λ x. then_replies x (λ next es. replies shared had (ws ++ more) next es)) m
-after_leaves shared had task ws more meant (Broke next) rest m n = absurd (n refl)
+after_leaves : (shared : Bool) (had : ℕ → ℕ) (task : Task) (w : Work) (ws more : List Work) (meant : Meant) (a : Advanced) (rest : List Entry) → IsAfter shared had (session_left task.session w a) meant a rest → answer_of a ≢ Ready stepped.Broke
+    → then_replies meant (λ next es. replies shared had (ws ++ more) next es) ≡ said_by (answer_of a) ++ replies shared had ((task_after task w ws a).asks ++ more) (task_after task w ws a).session rest
+after_leaves shared had task w ws more meant (Waits left) rest m n = ap (λ x. then_replies x (λ next es. replies shared had (ws ++ more) next es)) m
+after_leaves shared had task w ws more meant (Ran left next) rest m n = ap (λ x. then_replies x (λ next es. replies shared had (ws ++ more) next es)) m
+after_leaves shared had task w ws more meant (Replied r next) rest m n = ap (λ x. then_replies x (λ next es. replies shared had (ws ++ more) next es)) m
+after_leaves shared had task w ws more meant (Broke next) rest m n = absurd (n refl)
 
 asks_leave : (shared : Bool) (had : ℕ → ℕ) (seen : Seen) (old : Task) (asks : List Work) (added : Option Entry) (result : Poll Stepped) (new : Task)
     → old.asks ≡ asks → IsVersioned had seen added → PollsAsks shared seen old asks added result new → result ≢ Ready stepped.Broke
@@ -40,7 +40,7 @@ asks_leave shared had seen old [] added result new e v h n more rest =
     ∙ ap (λ (x : Task). replies shared had (x.asks ++ more) x.session rest) (sym h.same)
     ∙ ap (λ x. said_by x ++ replies shared had (new.asks ++ more) new.session rest) (sym h.answer)
 asks_leave shared had seen old (w ∷ ws) added result new e v h n more rest =
-    after_leaves shared had old ws more _ h.advanced rest (poll_means shared had old.stream seen old.session w added h.advanced v h.polls rest) (λ b. n (h.answer ∙ b))
+    after_leaves shared had old w ws more _ h.advanced rest (poll_means shared had old.stream seen old.session w added h.advanced v h.polls rest) (λ b. n (h.answer ∙ b))
     ∙ ap (λ (x : Task). said_by (answer_of h.advanced) ++ replies shared had (x.asks ++ more) x.session rest) (sym h.after)
     ∙ ap (λ x. said_by x ++ replies shared had (new.asks ++ more) new.session rest) (sym h.answer)
 
@@ -65,6 +65,8 @@ does_nothing shared stream seen s (todo.Answer (Waits w)) added a y h = absurd y
 does_nothing shared stream seen s (todo.Answer (Ran w next)) added a y h = absurd y
 does_nothing shared stream seen s (todo.Answer (Broke next)) added a y h = absurd y
 does_nothing shared stream seen s (todo.Poll running) added a y h = absurd y
+does_nothing shared stream seen s (todo.StoreSql text) added a y h = absurd y
+does_nothing shared stream seen s (todo.CloseSql id) added a y h = absurd y
 does_nothing shared stream seen s todo.Close added a y h = absurd y
 
 shut_work : (shared : Bool) (stream : StreamNo) (seen : Seen) (s : Session) (w : Work) (added : Option Entry) (a : Advanced) → is_shut s.state ≡ true → PollsWork shared stream seen s w added a → (added ≡ None) × (is_shut (state_left s.state a) ≡ true)

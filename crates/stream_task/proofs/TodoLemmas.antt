@@ -1,19 +1,21 @@
 -- What a poll is to do, and what it leaves.
-use Rattle.std.proofs.Common.{◌≡◌, ◌⊎◌, ℕ, true, false, List, [], ◌∷◌, ◌++◌, Option, Some, None, refl, sym, ◌∙◌, subst, inl, inr, arith}
+use Rattle.std.proofs.Common.{◌≡◌, ◌⊎◌, ℕ, Bool, true, false, List, [], ◌∷◌, ◌++◌, Option, Some, None, refl, sym, ◌∙◌, subst, inl, inr, arith}
 use Rattle.std.proofs.lemmas.Bool.{cases_Bool}
 use Rattle.hrana_stmt.specs.declared.codes.Code.{Code}
 use Rattle.hrana_batch.specs.declared.batches.Step.{Step}
 use Rattle.hrana_batch.specs.declared.outcomes.Outcome.{Outcome}
 use Rattle.hrana_batch.specs.declared.outcomes.Outcome.TheVariants.{Skipped}
 use Rattle.stream_requests.specs.declared.replies.Reply.{Reply}
+use Rattle.stream_requests.specs.declared.replies.Reply.TheVariants as reply
 use Rattle.sql_text.specs.Spans.{unclosed_at}
 use Rattle.stream_task.specs.Session.{is_auto, is_shut}
 use Rattle.stream_task.specs.Checks.{text_of}
+use Rattle.stream_task.specs.Texts.{store_refusal}
 use Rattle.stream_task.specs.Table.{is_waiting, state_after}
 use Rattle.stream_task.specs.Steps.{is_skipped}
 use Rattle.stream_task.specs.Doing.{Session, session_in, steps_of_text}
-use Rattle.stream_task.specs.Means.{ends_with}
-use Rattle.stream_task.specs.Advance.{StartsIn, todo_of, open_todo, shut_todo, running_todo, sequence_todo, closed_todo, steps_rest, replied_or, outcome_leaves, waits_on, state_left, Leaves}
+use Rattle.stream_task.specs.Means.{ends_with, reply_of}
+use Rattle.stream_task.specs.Advance.{StartsIn, todo_of, open_todo, shut_todo, running_todo, sequence_todo, closed_todo, store_todo, steps_rest, replied_or, outcome_leaves, waits_on, state_left, texts_replied, texts_left, Leaves}
 use Rattle.stream_task.specs.declared.session.TxnState.{TxnState}
 use Rattle.stream_task.specs.declared.session.TxnState.TheVariants.{Closed}
 use Rattle.stream_task.specs.declared.texts.StoredText.{StoredText}
@@ -40,7 +42,7 @@ Answered state other = ⊥
 abbrev pub StartsTodo : Session → Todo → Type 0
 StartsTodo s (todo.Answer a) = Answered s.state a
 StartsTodo s (todo.Poll running) = StartsIn (is_auto s.state) running × (is_shut s.state ≡ false)
-StartsTodo s todo.Close = is_shut s.state ≡ false
+StartsTodo s other = is_shut s.state ≡ false
 
 running_starts : (k : Kind) (left : List Step) (done : List Outcome) (s : Session) → is_shut s.state ≡ false → StartsTodo s (running_todo s.state (Steps k (record { left = left; done = done })))
 running_starts k [] done s o = inl refl
@@ -57,11 +59,17 @@ sequence_starts : (text : Option (List ℕ)) (s : Session) → is_shut s.state �
 sequence_starts None s o = inl refl
 sequence_starts (Some text) s o = closed_starts text (unclosed_at text) s o
 
+store_starts : (s : Session) (text : StoredText) (refusal : Option Code) → is_shut s.state ≡ false → StartsTodo s (store_todo s.state text refusal)
+store_starts s text (Some c) o = inl refl
+store_starts s text None o = o
+
 open_starts : (s : Session) (w : Work) → is_shut s.state ≡ false → StartsTodo s (open_todo s w)
 open_starts s (work.Running (Statement stmt)) o = (tt, o)
 open_starts s (work.Running (Steps k r)) o = running_starts k r.left r.done s o
 open_starts s (work.Sequence text) o = sequence_starts (text_of s.texts text) s o
 open_starts s work.GetAutocommit o = inl refl
+open_starts s (work.StoreSql text) o = store_starts s text (store_refusal s.texts text) o
+open_starts s (work.CloseSql id) o = o
 open_starts s work.Close o = o
 
 shut_starts : (texts : List StoredText) (state : TxnState) (w : Work) → is_shut state ≡ true → StartsTodo (session_in texts state) (shut_todo state w)
@@ -80,6 +88,70 @@ answer_rests state (Replied r next) h = refl
 answer_rests state (Waits w) h = absurd h
 answer_rests state (Ran w next) h = absurd h
 answer_rests state (Broke next) h = absurd h
+
+-- ---- what is done to the texts
+
+abbrev is_of_texts : Work → Bool
+is_of_texts (work.StoreSql text) = true
+is_of_texts (work.CloseSql id) = true
+is_of_texts w = false
+
+-- it stores the text of its request, lets go of the one of its request, or leaves the texts
+abbrev pub TextsBy : Work → Todo → Type 0
+TextsBy w (todo.StoreSql text) = w ≡ work.StoreSql text
+TextsBy w (todo.CloseSql id) = w ≡ work.CloseSql id
+TextsBy w (todo.Answer a) = (texts : List StoredText) → texts_left texts w a ≡ texts
+TextsBy w other = (texts : List StoredText) (a : Advanced) → texts_left texts w a ≡ texts
+
+replied_keeps : (w : Work) (r : Reply) (texts : List StoredText) → is_of_texts w ≡ false → texts_replied texts r w ≡ texts
+replied_keeps (work.StoreSql text) r texts p = absurd (cc)
+replied_keeps (work.CloseSql id) r texts p = absurd (cc)
+replied_keeps w reply.SqlStored texts p = refl
+replied_keeps w reply.SqlClosed texts p = refl
+replied_keeps w r texts p = refl
+
+texts_keep : (w : Work) (texts : List StoredText) (a : Advanced) → is_of_texts w ≡ false → texts_left texts w a ≡ texts
+texts_keep w texts (Replied r next) p = replied_keeps w r texts p
+texts_keep w texts a p = refl
+
+running_texts : (w : Work) (k : Kind) (left : List Step) (done : List Outcome) (state : TxnState) → is_of_texts w ≡ false → TextsBy w (running_todo state (Steps k (record { left = left; done = done })))
+running_texts w k [] done state p = λ texts. replied_keeps w (reply_of k done) texts p
+running_texts w k (x ∷ xs) done state p = elim (cases_Bool (is_skipped x.condition done (is_auto state))) [
+  | inl y ↦ rw y (running_texts w k xs (done ++ Skipped ∷ []) state p)
+  | inr n ↦ rw n (λ texts a. texts_keep w texts a p)
+]
+
+closed_texts : (w : Work) (text : List ℕ) (at : Option ℕ) (state : TxnState) → is_of_texts w ≡ false → TextsBy w (closed_todo state text at)
+closed_texts w text (Some at) state p = λ texts. refl
+closed_texts w text None state p = running_texts w Sequence (steps_of_text text) [] state p
+
+sequence_texts : (w : Work) (text : Option (List ℕ)) (state : TxnState) → is_of_texts w ≡ false → TextsBy w (sequence_todo state text)
+sequence_texts w None state p = λ texts. refl
+sequence_texts w (Some text) state p = closed_texts w text (unclosed_at text) state p
+
+store_texts : (state : TxnState) (text : StoredText) (refusal : Option Code) → TextsBy (work.StoreSql text) (store_todo state text refusal)
+store_texts state text (Some c) = λ texts. refl
+store_texts state text None = refl
+
+open_texts : (s : Session) (w : Work) → TextsBy w (open_todo s w)
+open_texts s (work.Running (Statement stmt)) = λ texts a. texts_keep (work.Running (Statement stmt)) texts a refl
+open_texts s (work.Running (Steps k r)) = running_texts (work.Running (Steps k r)) k r.left r.done s.state refl
+open_texts s (work.Sequence text) = sequence_texts (work.Sequence text) (text_of s.texts text) s.state refl
+open_texts s work.GetAutocommit = λ texts. refl
+open_texts s (work.StoreSql text) = store_texts s.state text (store_refusal s.texts text)
+open_texts s (work.CloseSql id) = refl
+open_texts s work.Close = λ texts a. texts_keep work.Close texts a refl
+
+shut_texts : (state : TxnState) (w : Work) → TextsBy w (shut_todo state w)
+shut_texts Closed w = λ texts. refl
+shut_texts state work.Close = λ texts. refl
+shut_texts state w = λ texts. refl
+
+pub todo_texts : (s : Session) (w : Work) → TextsBy w (todo_of s w)
+todo_texts s w = elim (cases_Bool (is_shut s.state)) [
+  | inl y ↦ rw y (shut_texts s.state w)
+  | inr n ↦ rw n (open_texts s w)
+]
 
 -- ---- what is left
 

@@ -1,5 +1,5 @@
 -- One poll of a request: the entry that it adds, and what it leaves.
-use Rattle.std.specs.Prelude.{◌≡◌, ◌⊎◌, ◌<◌, length, true, false, if◌then◌else◌, ℕ, Bool, List, [], ◌∷◌, Option, Some, None}
+use Rattle.std.specs.Prelude.{◌≡◌, ◌⊎◌, ◌<◌, length, true, false, if◌then◌else◌, ℕ, Bool, List, [], ◌∷◌, ◌++◌, Option, Some, None}
 use Rattle.hrana_value.specs.declared.StreamNo.{StreamNo}
 use Rattle.hrana_stmt.specs.declared.codes.Code.{Code}
 use Rattle.hrana_stmt.specs.declared.codes.Code.TheVariants as code
@@ -13,14 +13,16 @@ use Rattle.engine_core.specs.declared.entries.Entry.{Entry}
 use Rattle.engine_core.specs.declared.entries.Undo.TheVariants as undo
 use Rattle.stream_task.specs.Session.{is_auto, is_shut}
 use Rattle.stream_task.specs.Checks.{text_of}
+use Rattle.stream_task.specs.Texts.{store_refusal, without_text}
 use Rattle.stream_task.specs.Table.{Seen}
 use Rattle.stream_task.specs.Adds.{PollsStatement, undone_of}
 use Rattle.stream_task.specs.Steps.{first_of, noted, passed, StartsAt}
 use Rattle.stream_task.specs.Steps.{Steps as Stepping}
-use Rattle.stream_task.specs.Doing.{Session, steps_of_text}
+use Rattle.stream_task.specs.Doing.{Session, session_in, steps_of_text}
 use Rattle.stream_task.specs.Means.{failed, executed, reply_of, ends_with}
 use Rattle.stream_task.specs.declared.session.TxnState.{TxnState}
 use Rattle.stream_task.specs.declared.session.TxnState.TheVariants.{Closed}
+use Rattle.stream_task.specs.declared.texts.StoredText.{StoredText}
 use Rattle.stream_task.specs.declared.table.Went.{Went}
 use Rattle.stream_task.specs.declared.table.Went.TheVariants as went
 use Rattle.stream_task.specs.declared.work.Kind.{Kind}
@@ -64,11 +66,18 @@ abbrev pub sequence_todo : TxnState → Option (List ℕ) → Todo
 sequence_todo state None = todo.Answer (Replied (failed code.NoSqlId) state)
 sequence_todo state (Some text) = closed_todo state text (unclosed_at text)
 
+-- a text is stored that isn't refused
+abbrev pub store_todo : TxnState → StoredText → Option Code → Todo
+store_todo state text (Some c) = todo.Answer (Replied (failed c) state)
+store_todo state text None = todo.StoreSql text
+
 -- in a session that is neither dead nor closed
 abbrev pub open_todo : Session → Work → Todo
 open_todo s (work.Running running) = running_todo s.state running
 open_todo s (work.Sequence text) = sequence_todo s.state (text_of s.texts text)
 open_todo s work.GetAutocommit = todo.Answer (Replied (reply.Autocommit (is_auto s.state)) s.state)
+open_todo s (work.StoreSql text) = store_todo s.state text (store_refusal s.texts text)
+open_todo s (work.CloseSql id) = todo.CloseSql id
 open_todo s work.Close = todo.Close
 
 -- in a closed session, and in a dead one
@@ -92,6 +101,21 @@ state_left state (Waits w) = state
 state_left state (Ran w next) = next
 state_left state (Replied r next) = next
 state_left state (Broke next) = next
+
+-- A request that has this reply has changed the stored texts: the one that it stored stands at their end, or the one that it
+-- closed is gone.
+abbrev pub texts_replied : List StoredText → Reply → Work → List StoredText
+texts_replied texts reply.SqlStored (work.StoreSql text) = texts ++ text ∷ []
+texts_replied texts reply.SqlClosed (work.CloseSql id) = without_text id texts
+texts_replied texts r w = texts
+
+abbrev pub texts_left : List StoredText → Work → Advanced → List StoredText
+texts_left texts w (Replied r next) = texts_replied texts r w
+texts_left texts w result = texts
+
+-- the session after a poll of this request
+abbrev pub session_left : Session → Work → Advanced → Session
+session_left s w result = session_in (texts_left s.texts w result) (state_left s.state result)
 
 abbrev pub waits_on : Advanced → Bool
 waits_on (Waits w) = true
@@ -156,6 +180,8 @@ pub record Closes (state : TxnState) (added : Option Entry) (result : Advanced) 
 abbrev pub Does : Bool → StreamNo → Seen → Session → Todo → Option Entry → Advanced → Type 0
 Does shared stream seen s (todo.Answer expected) added result = Answers expected added result
 Does shared stream seen s (todo.Poll running) added result = PollsRunning shared stream seen s running added result
+Does shared stream seen s (todo.StoreSql text) added result = Answers (Replied reply.SqlStored s.state) added result
+Does shared stream seen s (todo.CloseSql id) added result = Answers (Replied reply.SqlClosed s.state) added result
 Does shared stream seen s todo.Close added result = Closes s.state added result
 
 -- there was no memory before anything was done, and nothing changed

@@ -50,6 +50,8 @@ work_of (ask.Execute stmt) = Some (work.Running (Statement stmt))
 work_of (ask.Batch batch) = Some (work.Running (Steps Batch (record { left = batch.steps; done = [] })))
 work_of (ask.Sequence text) = Some (work.Sequence text)
 work_of ask.GetAutocommit = Some work.GetAutocommit
+work_of (ask.StoreSql id sql) = Some (work.StoreSql (record { id = id; sql = sql }))
+work_of (ask.CloseSql id) = Some (work.CloseSql id)
 work_of ask.Close = Some work.Close
 work_of other = None
 
@@ -59,5 +61,7 @@ MayBeAsked (ask.Execute stmt) = Unit {0}
 MayBeAsked (ask.Batch batch) = NamesEarlierSteps batch
 MayBeAsked (ask.Sequence text) = Unit {0}
 MayBeAsked ask.GetAutocommit = Unit {0}
+MayBeAsked (ask.StoreSql id sql) = Unit {0}
+MayBeAsked (ask.CloseSql id) = Unit {0}
 MayBeAsked ask.Close = Unit {0}
 MayBeAsked other = ⊥

@@ -9,9 +9,9 @@ use Rattle.engine_core.specs.declared.entries.Entry.{Entry}
 use Rattle.engine_core.specs.declared.entries.Entry.TheVariants as entry
 use Rattle.stream_task.specs.Session.{is_shut}
 use Rattle.stream_task.specs.Table.{Seen, IsVersioned}
-use Rattle.stream_task.specs.Doing.{Session, in_state}
+use Rattle.stream_task.specs.Doing.{Session}
 use Rattle.stream_task.specs.Means.{means, steps_mean, Meant, said, cut}
-use Rattle.stream_task.specs.Advance.{PollsWork}
+use Rattle.stream_task.specs.Advance.{PollsWork, session_left}
 use Rattle.stream_task.specs.Polls.{Polls, Task}
 use Rattle.stream_task.specs.declared.session.TxnState.{TxnState}
 use Rattle.stream_task.specs.declared.session.TxnState.TheVariants.{Closed}
@@ -30,16 +30,16 @@ use Rattle.stream_task.specs.declared.task.Stepped.TheVariants as stepped
 -- A poll leaves what the request means, with the entry that it adds in front: that is what the request which is left means
 -- in the session that is left, by the entries that later polls add. Where memory was short, the request has no reply.
 abbrev pub IsAfter : Bool → (ℕ → ℕ) → Session → Meant → Advanced → List Entry → Type 0
-IsAfter shared had s meant (Waits left) rest = meant ≡ means shared had s left rest
-IsAfter shared had s meant (Ran left next) rest = meant ≡ means shared had (in_state s next) left rest
-IsAfter shared had s meant (Replied r next) rest = meant ≡ said r (in_state s next) rest
-IsAfter shared had s meant (Broke next) rest = Unit {0}
+IsAfter shared had next meant (Waits left) rest = meant ≡ means shared had next left rest
+IsAfter shared had next meant (Ran left state) rest = meant ≡ means shared had next left rest
+IsAfter shared had next meant (Replied r state) rest = meant ≡ said r next rest
+IsAfter shared had next meant (Broke state) rest = Unit {0}
 
 -- `had` is the version at which each unit began
 abbrev pub PollMeans : Type 0
 PollMeans = (shared : Bool) (had : ℕ → ℕ) (stream : StreamNo) (seen : Seen) (s : Session) (w : Work) (added : Option Entry) (result : Advanced)
     → IsVersioned had seen added → PollsWork shared stream seen s w added result
-    → (rest : List Entry) → IsAfter shared had s (means shared had s w (option_to_list added ++ rest)) result rest
+    → (rest : List Entry) → IsAfter shared had (session_left s w result) (means shared had s w (option_to_list added ++ rest)) result rest
 
 -- ---- the polls of a request
 
@@ -52,11 +52,11 @@ pub data Polled (shared : Bool) (had : ℕ → ℕ) (stream : StreamNo) : Sessio
       → Polled shared had stream s w (option_to_list added ++ used) reply end
   ran : (s : Session) (w : Work) (seen : Seen) (added : Option Entry) (left : Work) (next : TxnState) (used : List Entry) (reply : Reply) (end : Session)
       → IsVersioned had seen added → PollsWork shared stream seen s w added (Ran left next)
-      → Polled shared had stream (in_state s next) left used reply end
+      → Polled shared had stream (session_left s w (Ran left next)) left used reply end
       → Polled shared had stream s w (option_to_list added ++ used) reply end
   replied : (s : Session) (w : Work) (seen : Seen) (added : Option Entry) (reply : Reply) (next : TxnState)
       → IsVersioned had seen added → PollsWork shared stream seen s w added (Replied reply next)
-      → Polled shared had stream s w (option_to_list added ++ []) reply (in_state s next)
+      → Polled shared had stream s w (option_to_list added ++ []) reply (session_left s w (Replied reply next))
 
 -- the reply to a request is what it means, by the entries that its polls added, in order
 abbrev pub AskMeans : Type 0

@@ -1,5 +1,6 @@
 pub mod Session
 pub mod Checks
+pub mod Texts
 pub mod Table
 pub mod Act
 pub mod Effect

@@ -18,6 +18,7 @@ use Rattle.engine_core.specs.declared.entries.How.TheVariants as how
 use Rattle.engine_core.specs.declared.entries.Undo.TheVariants as undo
 use Rattle.stream_task.specs.Session.{is_auto, is_shut, unit_of}
 use Rattle.stream_task.specs.Checks.{ready_of, text_of}
+use Rattle.stream_task.specs.Texts.{store_refusal, without_text}
 use Rattle.stream_task.specs.Table.{plan, takes, empty_result}
 use Rattle.stream_task.specs.Steps.{is_skipped}
 use Rattle.stream_task.specs.Doing.{Session, session_in, in_state, steps_of_text}
@@ -139,6 +140,11 @@ abbrev pub sequence_means : Bool → (ℕ → ℕ) → Option (List ℕ) → Ses
 sequence_means shared had None s es = said (failed code.NoSqlId) s es
 sequence_means shared had (Some text) s es = closed_means shared had text (unclosed_at text) s es
 
+-- a text is stored, or refused with this code
+abbrev pub store_means : Option Code → StoredText → Session → List Entry → Meant
+store_means (Some c) text s es = said (failed c) s es
+store_means None text s es = said reply.SqlStored (session_in (s.texts ++ text ∷ []) s.state) es
+
 -- an open unit is taken back
 abbrev pub undo_means : Session → List Entry → Meant
 undo_means s [] = cut [] s
@@ -158,6 +164,8 @@ abbrev pub open_means : Bool → (ℕ → ℕ) → Session → Work → List Ent
 open_means shared had s (work.Running running) es = running_means shared had s running es
 open_means shared had s (work.Sequence text) es = sequence_means shared had (text_of s.texts text) s es
 open_means shared had s work.GetAutocommit es = said (reply.Autocommit (is_auto s.state)) s es
+open_means shared had s (work.StoreSql text) es = store_means (store_refusal s.texts text) text s es
+open_means shared had s (work.CloseSql id) es = said reply.SqlClosed (session_in (without_text id s.texts) s.state) es
 open_means shared had s work.Close es = close_means (unit_of s.state) s es
 
 -- in a closed session, and in a dead one

@@ -14,7 +14,7 @@ use Rattle.engine_core.specs.declared.entries.Undo.TheVariants as undo
 use Rattle.stream_task.specs.Table.{Seen}
 use Rattle.stream_task.specs.Adds.{AddsOne, undone_of}
 use Rattle.stream_task.specs.Doing.{Session, in_state, work_of}
-use Rattle.stream_task.specs.Advance.{PollsWork, state_left}
+use Rattle.stream_task.specs.Advance.{PollsWork, session_left}
 use Rattle.stream_task.specs.declared.session.Cause.{Cause}
 use Rattle.stream_task.specs.declared.session.Cause.TheVariants as cause
 use Rattle.stream_task.specs.declared.session.TxnState.{TxnState}
@@ -62,14 +62,15 @@ asks_left rest (Ran w next) = w ∷ rest
 asks_left rest (Replied r next) = rest
 asks_left rest (Broke next) = []
 
-abbrev pub task_after : Task → List Work → Advanced → Task
-task_after task rest advanced = with_asks task (state_left task.session.state advanced) (asks_left rest advanced)
+-- the stream after a poll of its first request
+abbrev pub task_after : Task → Work → List Work → Advanced → Task
+task_after task w rest advanced = record { stream = task.stream; texts_inside = task.texts_inside; session = session_left task.session w advanced; asks = asks_left rest advanced }
 
 pub record PollsFirst (shared : Bool) (seen : Seen) (old : Task) (w : Work) (rest : List Work) (added : Option Entry) (result : Poll Stepped) (new : Task) : Type 0 where
   pub advanced : Advanced
   pub polls : PollsWork shared old.stream seen old.session w added advanced
   pub answer : result ≡ answer_of advanced
-  pub after : new ≡ task_after old rest advanced
+  pub after : new ≡ task_after old w rest advanced
 
 pub record IsIdle (old : Task) (added : Option Entry) (result : Poll Stepped) (new : Task) : Type 0 where
   pub no_entry : added ≡ None

@@ -1,23 +1,23 @@
 // One poll of a request.
-ghost use Rattle.std.specs.Prelude.{◌≡◌, ◌≢◌, ◌<◌, ◌≤◌, ◌+◌, ◌-◌, ◌^◌, false, length, Some, IsSome, IsTrue};
+ghost use Rattle.std.specs.Prelude.{◌≡◌, ◌≢◌, ◌⊎◌, ◌<◌, ◌≤◌, ◌+◌, ◌-◌, ◌^◌, false, length, Some, IsSome, IsTrue};
 ghost use Rattle.txn_table.specs.Turns.{has};
 ghost use Rattle.stream_task.specs.Session.{is_auto, is_shut, open_of};
 ghost use Rattle.stream_task.specs.Moved.{AgreesAs, AreBelow, WritesByTurn, LivesByTurn, StaysOne};
 ghost use Rattle.stream_task.specs.Adds.{AddsOne, seen_in};
-ghost use Rattle.stream_task.specs.Advance.{Leaves, outcome_leaves, steps_go_on, statement_of, StartsIn, waits_on, state_left, Does, PollsRunning, Closes, PollsWork};
+ghost use Rattle.stream_task.specs.Advance.{Leaves, outcome_leaves, steps_go_on, statement_of, StartsIn, waits_on, state_left, texts_left, Does, PollsRunning, Closes, PollsWork};
 
 use crate::replies::{executed, failed, reply_of};
 use crate::session::{TxnState, is_auto};
 use crate::statement::{end_unit, poll_statement};
 use crate::steps::StepRun;
 use crate::table::Went;
-use crate::texts::StoredTexts;
+use crate::texts::{StoredText, StoredTexts};
 use crate::todo::{Todo, todo_of};
 use crate::work::{Kind, Running, Work};
 use engine_core::{Engine, Entries, Undo};
 use hrana_batch::{Next, Outcome};
 use hrana_stmt::Stmt;
-use hrana_value::StreamNo;
+use hrana_value::{NoMemory, StreamNo};
 use std::alloc::Global;
 use stream_requests::Reply;
 use txn_table::TxnTable;
@@ -156,6 +156,26 @@ fn close<E: Engine>(
     Advanced::Replied(Reply::Closed, TxnState::Closed)
 }
 
+/// Stores a text. Where there is no memory nothing changes.
+fn store_sql(texts: &mut StoredTexts, text: StoredText, state: TxnState) -> Advanced
+    ensures answer { (result ≡ Advanced.Replied Reply.SqlStored state) ⊎ (result ≡ Advanced.Broke state) }
+    ensures texts { texts.new ≡ texts_left texts.old (Work.StoreSql text) result }
+{
+    match texts.store(text) {
+        Ok(()) => Advanced::Replied(Reply::SqlStored, state),
+        Err(NoMemory) => Advanced::Broke(state),
+    }
+}
+
+/// Lets go of the stored text of this number, if there is one.
+fn close_sql(texts: &mut StoredTexts, id: i32, state: TxnState) -> Advanced
+    ensures answer { result ≡ Advanced.Replied Reply.SqlClosed state }
+    ensures texts { texts.new ≡ texts_left texts.old (Work.CloseSql id) result }
+{
+    texts.forget(id);
+    Advanced::Replied(Reply::SqlClosed, state)
+}
+
 /// One poll of a request.
 pub(crate) fn advance<E: Engine>(
     alloc: Global,
@@ -164,7 +184,7 @@ pub(crate) fn advance<E: Engine>(
     entries: &mut Entries,
     stream: StreamNo,
     state: TxnState,
-    texts: &StoredTexts,
+    texts: &mut StoredTexts,
     work: Work,
 ) -> Advanced
     requires agrees { AgreesAs E.told (E.db engine.old) (E.live engine.old) turns.old stream state }
@@ -174,8 +194,9 @@ pub(crate) fn advance<E: Engine>(
     requires reserved { is_shut state ≡ false → IsTrue (has stream turns.old.reserved) }
     requires room { 0 < entries.old.spare }
     requires few { (turns.old.version < 2 ^ 64 - 1) × (entries.old.next < 2 ^ 64 - 1) }
-    ensures adds { AddsOne E.told E.meaning E.db E.live E.faults stream engine.old engine.new turns.old turns.new entries.old entries.new (waits_on result) (λ added. PollsWork E.SHARED stream (seen_in turns.old entries.old.next) (record { state = state; texts = texts.now }) work added result) }
+    ensures adds { AddsOne E.told E.meaning E.db E.live E.faults stream engine.old engine.new turns.old turns.new entries.old entries.new (waits_on result) (λ added. PollsWork E.SHARED stream (seen_in turns.old entries.old.next) (record { state = state; texts = texts.old }) work added result) }
     ensures agrees { AgreesAs E.told (E.db engine.new) (E.live engine.new) turns.new stream (state_left state result) }
+    ensures texts { texts.new ≡ texts_left texts.old work result }
     ensures below { AreBelow (E.live engine.new) entries.new.next }
     ensures writers { WritesByTurn (E.live engine.new) turns.new }
     ensures one { StaysOne E.SHARED (E.live engine.old) (E.live engine.new) turns.new }
@@ -187,6 +208,8 @@ pub(crate) fn advance<E: Engine>(
         Todo::Poll(running) => {
             poll_running(alloc, engine, turns, entries, stream, state, texts, running)
         }
+        Todo::StoreSql(text) => store_sql(texts, text, state),
+        Todo::CloseSql(id) => close_sql(texts, id, state),
         Todo::Close => close(engine, turns, entries, stream, state),
     }
 }

@@ -8,6 +8,7 @@ mod checks;
 mod cutting;
 mod laws;
 mod leads;
+mod limits;
 mod outcomes;
 mod replies;
 mod session;
@@ -29,6 +30,7 @@ pub use leads::{
     a_joined_stream_stands, ends_lead_on, journal_says_what_stands, polls_lead_on,
     streams_stand_at_first, version_alone_stands,
 };
+pub use limits::{MAX_STORED_BYTES, MAX_STORED_TEXTS, limits_are};
 pub use session::{Cause, TxnState};
 pub use task::{Poll, Stepped, StreamTask, Task};
 pub use texts::{StoredText, StoredTexts, stored_text};

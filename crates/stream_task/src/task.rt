@@ -248,7 +248,7 @@ impl<E: Engine> Task<E> for StreamTask {
             entries,
             self.stream,
             self.state,
-            &self.texts,
+            &mut self.texts,
             work,
         );
         settle(

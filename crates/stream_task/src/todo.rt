@@ -1,7 +1,8 @@
 // What a poll of a request is to do.
 ghost use Rattle.std.specs.Prelude.{◌≡◌};
 ghost use Rattle.stream_task.specs.Checks.{text_of};
-ghost use Rattle.stream_task.specs.Advance.{IsTodo, shut_todo, open_todo, running_todo, sequence_todo, todo_of};
+ghost use Rattle.stream_task.specs.Texts.{store_refusal};
+ghost use Rattle.stream_task.specs.Advance.{IsTodo, shut_todo, open_todo, running_todo, sequence_todo, store_todo, todo_of};
 ghost use Rattle.stream_task.specs.Means.{failed};
 
 use crate::advance::Advanced;
@@ -9,7 +10,7 @@ use crate::cutting::sequence_of_text;
 use crate::replies::{failed, reply_of};
 use crate::session::{TxnState, is_auto, is_shut};
 use crate::steps::StepRun;
-use crate::texts::{StoredTexts, text_of};
+use crate::texts::{StoredText, StoredTexts, store_refusal, text_of};
 use crate::work::{Kind, Running, Work};
 use hrana_stmt::{Code, SqlRef};
 use sql_text::SplitFail;
@@ -23,6 +24,10 @@ pub(crate) enum Todo {
     Answer(Advanced),
     /// Its first statement is polled, which isn't skipped.
     Poll(Running),
+    /// A text is stored.
+    StoreSql(StoredText),
+    /// The stored text of this number is let go of, if it is there.
+    CloseSql(i32),
     /// The stream is closed.
     Close,
 }
@@ -79,6 +84,16 @@ fn sequence_todo(alloc: Global, state: TxnState, texts: &StoredTexts, sql: &SqlR
     }
 }
 
+/// A text is stored, unless its number is in use or there are too many.
+fn store_todo(alloc: Global, state: TxnState, texts: &StoredTexts, text: StoredText) -> Todo
+    ensures { IsTodo state (store_todo state text (store_refusal texts.now text)) result }
+{
+    match store_refusal(texts, &text) {
+        Some(code) => refuse(alloc, code, state),
+        None => Todo::StoreSql(text),
+    }
+}
+
 /// In a session that is neither.
 fn open_todo(alloc: Global, state: TxnState, texts: &StoredTexts, work: Work) -> Todo
     ensures { IsTodo state (open_todo (record { state = state; texts = texts.now }) work) result }
@@ -89,6 +104,8 @@ fn open_todo(alloc: Global, state: TxnState, texts: &StoredTexts, work: Work) ->
         Work::GetAutocommit => {
             Todo::Answer(Advanced::Replied(Reply::Autocommit(is_auto(state)), state))
         }
+        Work::StoreSql(text) => store_todo(alloc, state, texts, text),
+        Work::CloseSql(id) => Todo::CloseSql(id),
         Work::Close => Todo::Close,
     }
 }

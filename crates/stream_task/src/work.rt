@@ -3,6 +3,7 @@ ghost use Rattle.std.specs.Prelude.{◌≡◌, Some, IfOk};
 ghost use Rattle.stream_task.specs.Doing.{work_of, MayBeAsked};
 
 use crate::steps::StepRun;
+use crate::texts::StoredText;
 use hrana_stmt::{SqlRef, Stmt};
 use hrana_value::NoMemory;
 use std::alloc::Global;
@@ -29,6 +30,10 @@ pub(crate) enum Work {
     /// A sequence whose text isn't cut yet. It is cut when its turn comes, since stored texts may change until then.
     Sequence(SqlRef),
     GetAutocommit,
+    /// A text is to be stored.
+    StoreSql(StoredText),
+    /// The stored text of this number is to be let go of.
+    CloseSql(i32),
     Close,
 }
 
@@ -45,11 +50,11 @@ pub(crate) fn work_of(alloc: Global, ask: Ask) -> Result<Work, NoMemory>
         }
         Ask::Sequence(sql) => Ok(Work::Sequence(sql)),
         Ask::GetAutocommit => Ok(Work::GetAutocommit),
+        Ask::StoreSql { id, sql } => Ok(Work::StoreSql(StoredText { id, sql })),
+        Ask::CloseSql(id) => Ok(Work::CloseSql(id)),
         Ask::Close => Ok(Work::Close),
         Ask::Cursor(_) => unreachable!(),
         Ask::Fetch(_) => unreachable!(),
         Ask::CloseCursor => unreachable!(),
-        Ask::StoreSql { .. } => unreachable!(),
-        Ask::CloseSql(_) => unreachable!(),
     }
 }

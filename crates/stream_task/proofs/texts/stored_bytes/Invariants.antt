@@ -1,6 +1,6 @@
 use Rattle.std.proofs.Common.{◌≡◌, ◌+◌, ◌-◌, ◌^◌, ◌≤◌, min, drop}
-use Rattle.hrana_hub.specs.Texts.{stored_bytes}
-use Rattle.hrana_hub.proofs.connection.stored_bytes.Given as goal
+use Rattle.stream_task.specs.Texts.{stored_bytes}
+use Rattle.stream_task.proofs.texts.stored_bytes.Given as goal
 
 -- what was counted, with the bytes of the texts that are left
 abbrev pub invariant-loop-text : goal.invariant-loop-text

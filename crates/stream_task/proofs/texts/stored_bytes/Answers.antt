@@ -1,7 +1,7 @@
 use Rattle.std.proofs.Common.{◌≡◌, drop, arith}
 use Rattle.std.proofs.lemmas.List.{at_drop_all}
-use Rattle.hrana_hub.specs.Texts.{stored_bytes}
-use Rattle.hrana_hub.proofs.connection.stored_bytes.Goals as goal
+use Rattle.stream_task.specs.Texts.{stored_bytes}
+use Rattle.stream_task.proofs.texts.stored_bytes.Goals as goal
 
 pub returns : goal.returns
 returns c =
