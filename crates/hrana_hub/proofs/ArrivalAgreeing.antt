@@ -26,11 +26,12 @@ use Rattle.stream_task.specs.Session.{open_of}
 use Rattle.stream_task.specs.Together.{States, Put, Together, AgreesAt, JoinsTogether, numbered}
 use Rattle.stream_task.specs.declared.session.TxnState.{TxnState}
 use Rattle.stream_task.specs.declared.session.TxnState.TheVariants.{Auto, Deferred, Reading, Writing, Dead, Closed}
-use Rattle.hrana_hub.specs.declared.limits.TheConstants.{MAX_old.state.streams}
+use Rattle.hrana_hub.specs.declared.limits.TheConstants.{MAX_STREAMS}
 use Rattle.baton_store.specs.Batons.{Batons}
 use Rattle.hrana_hub.specs.Agrees.{HubAgrees, IsNumbered, IsAhead, IsTied, open_units}
 use Rattle.hrana_hub.proofs.Tied.{tied_placed}
-use Rattle.hrana_hub.specs.Arrivals.{Went, quiet, accepts, on_hello, closing, with_conn, shut, fresh, opens, opens_unless, with_stream, unopened, asks, asks_at, queues, waiting, with_request, stores, stores_unless, is_full, on_request, on_numbered, if_greeted, on_answer, TurnsStay, IsAfter}
+use Rattle.hrana_hub.specs.Arrivals.{Went, quiet, accepts, on_hello, closing, with_conn, shut, fresh, opens, opens_unless, with_stream, unopened, asks, asks_at, queues, waiting, with_request, stores, stores_unless, on_request, on_numbered, if_greeted, on_answer, TurnsStay, IsAfter}
+use Rattle.stream_task.specs.Texts.{is_full}
 use Rattle.hrana_hub.specs.Maps.{Numbered, at, put, placed, id_at}
 use Rattle.hrana_hub.specs.State.{Conn, Stream, State, Seen, states_of, state_in}
 use Rattle.hrana_hub.specs.Step.{Goes, ReadText, OpenText, TextFell, Heard, TextSteps, BinarySteps, is_short, with_new_conn}
@@ -323,7 +324,7 @@ arrival_stays old new after es streams opened next version events issued stopped
 arrived_agrees : {D : Type 0} (told shared : Bool) (db : D) (live : Lives D) (old new : Seen) → JoinsTogether D told shared → IsAhead old.state → HubAgrees told shared db live old → IsAfter new.state old new
     → (next : new.state.next ≡ old.state.next) (version : new.state.version ≡ old.state.version) (events : new.state.events ≡ old.state.events) (issued : new.state.issued ≡ old.state.issued) (stopped : new.state.stopped ≡ old.state.stopped) → Moves old.state new.state → HubAgrees told shared db live new
 arrived_agrees told shared db live old new joins ahead a after next version events issued stopped (keeps_all streams opened) =
-    same_agrees told shared db live (with_turns new.turns old) new (turns_agree told shared db live old new after.turns a) (arrival_stays old new after (put n y old.state.streams) streams opened next version events issued stopped)
+    same_agrees told shared db live (with_turns new.turns old) new (turns_agree told shared db live old new after.turns a) (arrival_stays old new after old.state.streams streams opened next version events issued stopped)
 arrived_agrees told shared db live old new joins ahead a after next version events issued stopped (puts_one n x y there stream state session streams opened) =
     stays_agrees told shared db live (with_turns new.turns old) new n x y (turns_agree told shared db live old new after.turns a) there stream state session (arrival_stays old new after (put n y old.state.streams) streams opened next version events issued stopped)
 arrived_agrees {D} told shared db live old new joins ahead a after next version events issued stopped (adds_one c streams opened) = elim after.turns [

@@ -90,8 +90,8 @@ no_close_work ask.Close w o e = absurd (true≢false o)
 no_close_work (ask.Cursor batch) w o e = absurd (none_some e)
 no_close_work (ask.Fetch count) w o e = absurd (none_some e)
 no_close_work ask.CloseCursor w o e = absurd (none_some e)
-no_close_work (ask.StoreSql number sql) w o e = absurd (none_some e)
-no_close_work (ask.CloseSql number) w o e = absurd (none_some e)
+no_close_work (ask.StoreSql number sql) w o e = as_work (ask.StoreSql number sql) _ w e refl
+no_close_work (ask.CloseSql number) w o e = as_work (ask.CloseSql number) _ w e refl
 
 -- ---- a connection while streams change
 

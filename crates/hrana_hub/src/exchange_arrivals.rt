@@ -1,15 +1,253 @@
+// Exchanges that come in.
+ghost use Rattle.std.specs.Prelude.{◌≡◌, ◌<◌, ◌≤◌, ◌+◌, ◌^◌, Bool, Option, None, Some, List, [], All, Contains, IfOk, IfErr, OnOk, OnErr, length};
+ghost use Rattle.http_wire.specs.declared.outs.HttpAnswer.{HttpAnswer};
+ghost use Rattle.stream_requests.specs.declared.asks.Ask.{Ask};
+ghost use Rattle.pipeline_body.specs.Exchanges.{begins, asked_in, error_answer, route_answer};
+ghost use Rattle.baton_store.specs.Batons.{HasNone};
+ghost use Rattle.stream_task.specs.Doing.{MayBeAsked};
+ghost use Rattle.stream_task.specs.Together.{numbered};
+ghost use Rattle.hrana_hub.specs.Agrees.{IsTied};
+ghost use Rattle.hrana_hub.specs.Drawn.{DrawsFrom};
+ghost use Rattle.hrana_hub.specs.Exchanges.{works_of, GoesDrawn, GoesAsked, IsHeard};
+ghost use Rattle.hrana_hub.specs.ExchangeArrived.{IsReadyFor, Starts, OpensSession, Unopened, Entered, Enters, EntersAll, StoreFits, exchange_of};
+ghost use Rattle.hrana_hub.specs.Maps.{at};
+ghost use Rattle.hrana_hub.specs.State.{Stream, State, with_state};
+ghost use Rattle.hrana_hub.specs.Step.{ExchangeSteps};
+ghost use Rattle.hrana_hub.specs.declared.limits.TheConstants.{MAX_CONNECTIONS};
+
+use crate::arrivals::accepts;
 use crate::hub::Hub;
-use crate::outs::nothing;
-use engine_core::Tokens;
-use http_wire::{HttpAsk, Outs};
+use crate::limits::MAX_SESSIONS;
+use crate::outs::{answers_with, nothing, without_memory};
+use crate::sessions::Running;
+use crate::slot::{Slot, add_slot, drop_slot};
+use baton_store::Redeem;
+use engine_core::{Failed, Tokens};
+use hrana_stmt::Code;
+use hrana_value::{List, NoMemory, StreamNo, Txt};
+use http_wire::{HttpAnswer, HttpAsk, Outs};
+use pipeline_body::{
+    Asked, BlankAnswer, Exchange, PipelineBody, asks_of_bodies_fit, error_answer, read_ask,
+    route_answer,
+};
+use std::alloc::Global;
+use stream_requests::Ask;
+use stream_task::Queued;
+
+/// How an exchange goes on once its words are drawn. All memory for it is taken.
+#[derive(Drop)]
+pub(crate) enum Ready {
+    /// Nothing is left to poll.
+    Answered(BlankAnswer),
+    /// The stream is asked this.
+    Waits(Exchange, Queued),
+}
+
+/// An exchange before its words are drawn.
+#[derive(Drop)]
+pub(crate) struct Prepared {
+    pub conn: u32,
+    pub close: bool,
+    pub ready: Ready,
+    /// The answer where no words could be drawn.
+    pub no_token: HttpAnswer,
+}
+
+/// The requests, as they are queued.
+fn queue(alloc: Global, asks: List<Ask>) -> Result<Queued, NoMemory>
+    requires { All MayBeAsked asks }
+    ensures { IfOk result (λ queued. queued ≡ works_of asks) }
+{
+    let mut queued = Queued::new(alloc);
+    for ask in asks.into_vec() {
+        queued.add(ask)?;
+    }
+    Ok(queued)
+}
+
+/// How the exchange goes on.
+fn make_ready(
+    alloc: Global,
+    exchange: Exchange,
+    asks: List<Ask>,
+    close: bool,
+) -> Result<Ready, NoMemory>
+    requires { All MayBeAsked asks }
+    ensures { IfOk result (IsReadyFor exchange asks close) }
+{
+    if exchange.is_over() {
+        return Ok(Ready::Answered(exchange.into_blank_answer(alloc, close)?));
+    }
+    Ok(Ready::Waits(exchange, queue(alloc, asks)?))
+}
 
 impl Hub {
+    /// How many streams of exchanges there are.
+    fn sessions(&self) -> usize
+        ensures { result ≡ sessions_in self.now.state.streams }
+    {
+        self.slots.values().filter(|slot| slot.of_exchanges()).count()
+    }
+
+    /// An exchange of the stream begins. Takes no memory.
+    fn run(&mut self, stream: u64, running: Running, queued: Queued) {
+        let conn = running.conn;
+        if let Some(slot) = self.slots.get_mut(&stream) {
+            slot.run(running, queued);
+        }
+        self.exchanges.begin(conn, stream);
+    }
+
+    /// The exchange begins, with these words. Where nothing is left to poll it is answered at once. Takes no memory.
+    fn start(
+        &mut self,
+        conn: u32,
+        close: bool,
+        stream: u64,
+        words: [u64; 2],
+        ready: Ready,
+    ) -> Outs {
+        match ready {
+            Ready::Answered(answer) => self.hand_out(conn, stream, words, answer),
+            Ready::Waits(exchange, queued) => {
+                let running = Running {
+                    conn,
+                    words,
+                    close,
+                    exchange,
+                };
+                self.run(stream, running, queued);
+                nothing()
+            }
+        }
+    }
+
+    /// Places for a stream of exchanges that opens next. Where there is no memory the state is as it was.
+    fn make_session(&mut self, conn: u32, number: u64) -> Result<(), NoMemory> {
+        self.turns.reserve_stream(StreamNo(number))?;
+        let slot = Slot::new_session(self.alloc, self.moment, conn, number)?;
+        add_slot(&mut self.slots, number, slot)?;
+        if self.store.reserve_stream(StreamNo(number)).is_err() {
+            drop_slot(&mut self.slots, number);
+            return Err(NoMemory);
+        }
+        Ok(())
+    }
+
+    /// It isn't opened after all.
+    fn drop_session(&mut self, number: u64) {
+        drop_slot(&mut self.slots, number);
+        self.store.forget(StreamNo(number));
+    }
+
+    /// The exchange opens a stream, unless there are too many.
+    fn begin_session<T: Tokens>(
+        &mut self,
+        tokens: &mut T,
+        prepared: Prepared,
+    ) -> Result<Outs, NoMemory> {
+        let Prepared {
+            conn,
+            close,
+            ready,
+            no_token,
+        } = prepared;
+        if MAX_SESSIONS <= self.sessions() {
+            let full = error_answer(self.alloc, 503, Code::TooManyStreams, close)?;
+            return Ok(answers_with(conn, by_draw(tokens, full, no_token)));
+        }
+        let number = self.opened + 1;
+        self.make_session(conn, number)?;
+        let Ok(words) = tokens.words() else {
+            self.drop_session(number);
+            return Ok(answers_with(conn, no_token));
+        };
+        self.opened = number;
+        Ok(self.start(conn, close, number, words, ready))
+    }
+
+    /// The exchange goes on with the stream that waits for its baton, if there is one.
+    fn go_on<T: Tokens>(
+        &mut self,
+        tokens: &mut T,
+        prepared: Prepared,
+        baton: &Txt,
+    ) -> Result<Outs, NoMemory> {
+        let Prepared {
+            conn,
+            close,
+            ready,
+            no_token,
+        } = prepared;
+        let dead = error_answer(self.alloc, 400, Code::BatonDead, close)?;
+        let Ok(words) = tokens.words() else {
+            return Ok(answers_with(conn, no_token));
+        };
+        match self.store.redeem(baton.as_str(), self.moment) {
+            Redeem::Live(stream) => Ok(self.start(conn, close, stream.0, words, ready)),
+            Redeem::Dead => Ok(answers_with(conn, dead)),
+        }
+    }
+
+    /// The exchange of a pipeline.
+    fn pipeline<T: Tokens>(
+        &mut self,
+        tokens: &mut T,
+        conn: u32,
+        close: bool,
+        body: PipelineBody,
+    ) -> Result<Outs, NoMemory> {
+        let PipelineBody { baton, asks } = body;
+        let begun = Exchange::begin(self.alloc, asks)?;
+        let ready = make_ready(self.alloc, begun.exchange, begun.asks, close)?;
+        let no_token = error_answer(self.alloc, 503, Code::NoToken, close)?;
+        let prepared = Prepared {
+            conn,
+            close,
+            ready,
+            no_token,
+        };
+        match baton {
+            None => self.begin_session(tokens, prepared),
+            Some(text) => self.go_on(tokens, prepared, &text),
+        }
+    }
+
+    /// An exchange that its route alone doesn't answer.
+    fn hear<T: Tokens>(
+        &mut self,
+        tokens: &mut T,
+        conn: u32,
+        ask: &HttpAsk,
+    ) -> Result<Outs, NoMemory> {
+        let let_in = accepts(&self.token, &ask.bearer);
+        match read_ask(self.alloc, ask, let_in)? {
+            Asked::Answered(answer) => Ok(answers_with(conn, answer)),
+            Asked::Pipeline(body) => self.pipeline(tokens, conn, ask.close, body),
+        }
+    }
+
+    /// An exchange has come in. Words are drawn for it once all memory is taken.
     pub(crate) fn exchange<T: Tokens>(
         &mut self,
-        _tokens: &mut T,
-        _conn: u32,
-        _ask: HttpAsk,
+        tokens: &mut T,
+        conn: u32,
+        ask: &HttpAsk,
     ) -> Outs {
-        nothing()
+        if let Some(answer) = route_answer(self.alloc, ask) {
+            return answers_with(conn, answer);
+        }
+        match self.hear(tokens, conn, ask) {
+            Ok(outs) => outs,
+            Err(_) => without_memory(self.alloc, conn, ask.close),
+        }
+    }
+}
+
+/// The first answer where words could be drawn, and else the second.
+fn by_draw<T: Tokens>(tokens: &mut T, drawn: HttpAnswer, failed: HttpAnswer) -> HttpAnswer {
+    match tokens.words() {
+        Ok(_) => drawn,
+        Err(_) => failed,
     }
 }

@@ -5,7 +5,7 @@ use Rattle.ws_messages.specs.Server.{answering}
 use Rattle.hrana_hub.specs.Arrivals.{tells, with_texts}
 use Rattle.hrana_hub.specs.Maps.{at, put}
 use Rattle.hrana_hub.specs.State.{Seen}
-use Rattle.hrana_hub.specs.Texts.{without_text}
+use Rattle.stream_task.specs.Texts.{without_text}
 use Rattle.hrana_hub.specs.contracts.hub.Hub.{the_view}
 use Rattle.hrana_hub.proofs.ArrivalLemmas.{conn_after}
 use Rattle.hrana_hub.proofs.hub.Hub.forget_text.Goals as goal
