@@ -1,19 +1,25 @@
 // Exchanges that come in.
-ghost use Rattle.std.specs.Prelude.{◌≡◌, ◌<◌, ◌≤◌, ◌+◌, ◌^◌, Bool, Option, None, Some, List, [], All, Contains, IfOk, IfErr, OnOk, OnErr, length};
+ghost use Rattle.std.specs.Prelude.{◌≡◌, ◌<◌, ◌≤◌, ◌+◌, ◌^◌, Bool, Option, None, Some, List, [], ◌∷◌, All, Contains, IfOk, OnOk, OnErr, length};
 ghost use Rattle.http_wire.specs.declared.outs.HttpAnswer.{HttpAnswer};
 ghost use Rattle.stream_requests.specs.declared.asks.Ask.{Ask};
-ghost use Rattle.pipeline_body.specs.Exchanges.{begins, asked_in, error_answer, route_answer};
+ghost use Rattle.pipeline_body.specs.Exchanges.{Progress, asked_in};
+ghost use Rattle.pipeline_body.specs.declared.bodies.PipelineBody.{PipelineBody};
 ghost use Rattle.baton_store.specs.Batons.{HasNone};
+ghost use Rattle.baton_store.specs.Batons.{without as without_session};
+ghost use Rattle.engine_core.specs.Draws.{Draw};
 ghost use Rattle.stream_task.specs.Doing.{MayBeAsked};
 ghost use Rattle.stream_task.specs.Together.{numbered};
-ghost use Rattle.hrana_hub.specs.Agrees.{IsTied};
+ghost use Rattle.hrana_hub.specs.Arrivals.{IsAfter};
+ghost use Rattle.hrana_hub.specs.Askers.{asks_these};
 ghost use Rattle.hrana_hub.specs.Drawn.{DrawsFrom};
-ghost use Rattle.hrana_hub.specs.Exchanges.{works_of, GoesDrawn, GoesAsked, IsHeard};
-ghost use Rattle.hrana_hub.specs.ExchangeArrived.{IsReadyFor, Starts, OpensSession, Unopened, Entered, Enters, EntersAll, StoreFits, exchange_of};
-ghost use Rattle.hrana_hub.specs.Maps.{at};
+ghost use Rattle.hrana_hub.specs.Exchanges.{works_of, sessions_in, in_session, with_exchange, IsHeard};
+ghost use Rattle.hrana_hub.specs.ExchangeArrived.{IsReadyFor, IsPreparedFor, Started, HasSession, StoreFits, Entered, GoesOr, GoesPrepared, answer_by};
+ghost use Rattle.hrana_hub.specs.Maps.{at, put, without};
+ghost use Rattle.hrana_hub.specs.Polled.{with_streams};
 ghost use Rattle.hrana_hub.specs.State.{Stream, State, with_state};
 ghost use Rattle.hrana_hub.specs.Step.{ExchangeSteps};
 ghost use Rattle.hrana_hub.specs.declared.limits.TheConstants.{MAX_CONNECTIONS};
+ghost use Rattle.hrana_hub.specs.declared.sessions.Session.{Session};
 
 use crate::arrivals::accepts;
 use crate::hub::Hub;
@@ -22,12 +28,12 @@ use crate::outs::{answers_with, nothing, without_memory};
 use crate::sessions::Running;
 use crate::slot::{Slot, add_slot, drop_slot};
 use baton_store::Redeem;
-use engine_core::{Failed, Tokens};
+use engine_core::Tokens;
 use hrana_stmt::Code;
 use hrana_value::{List, NoMemory, StreamNo, Txt};
 use http_wire::{HttpAnswer, HttpAsk, Outs};
 use pipeline_body::{
-    Asked, BlankAnswer, Exchange, PipelineBody, asks_of_bodies_fit, error_answer, read_ask,
+    Asked, BlankAnswer, Exchange, PipelineBody, error_answer, read_ask,
     route_answer,
 };
 use std::alloc::Global;
@@ -89,12 +95,24 @@ impl Hub {
         self.slots.values().filter(|slot| slot.of_exchanges()).count()
     }
 
-    /// An exchange of the stream begins. Takes no memory.
-    fn run(&mut self, stream: u64, running: Running, queued: Queued) {
-        let conn = running.conn;
+    fn run_slot(&mut self, stream: u64, running: Running, queued: Queued)
+        ensures { (x : Stream) → at stream self.old.state.streams ≡ Some x
+            → self.new ≡ with_state (with_streams (put stream (in_session (Session.Running running) (asks_these queued x)) self.old.state.streams) self.old.state) self.old }
+    {
         if let Some(slot) = self.slots.get_mut(&stream) {
             slot.run(running, queued);
         }
+    }
+
+    /// An exchange of the stream begins. Takes no memory.
+    fn run(&mut self, stream: u64, running: Running, queued: Queued)
+        requires unknown { at running.conn self.old.state.exchanges ≡ None }
+        requires room { length self.old.state.exchanges < MAX_CONNECTIONS }
+        ensures { (x : Stream) → at stream self.old.state.streams ≡ Some x
+            → self.new ≡ with_state (with_exchange running.conn stream (with_streams (put stream (in_session (Session.Running running) (asks_these queued x)) self.old.state.streams) self.old.state)) self.old }
+    {
+        let conn = running.conn;
+        self.run_slot(stream, running, queued);
         self.exchanges.begin(conn, stream);
     }
 
@@ -106,7 +124,16 @@ impl Hub {
         stream: u64,
         words: [u64; 2],
         ready: Ready,
-    ) -> Outs {
+    ) -> Outs
+        requires place { Contains self.old.store.reserved (numbered stream) }
+        requires none { HasNone self.old.store (numbered stream) }
+        requires few { self.old.state.issued < 2 ^ 62 }
+        requires issued { self.old.store.issued ≡ self.old.state.issued }
+        requires unknown { at conn self.old.state.exchanges ≡ None }
+        requires room { length self.old.state.exchanges < MAX_CONNECTIONS }
+        ensures { (x : Stream) (p : Progress) (asks : List Ask) → at stream self.old.state.streams ≡ Some x → IsReadyFor p asks close ready
+            → Started self.old stream x asks (record { conn = conn; words = words; close = close; exchange = p }) result self.new }
+    {
         match ready {
             Ready::Answered(answer) => self.hand_out(conn, stream, words, answer),
             Ready::Waits(exchange, queued) => {
@@ -123,7 +150,12 @@ impl Hub {
     }
 
     /// Places for a stream of exchanges that opens next. Where there is no memory the state is as it was.
-    fn make_session(&mut self, conn: u32, number: u64) -> Result<(), NoMemory> {
+    fn make_session(&mut self, conn: u32, number: u64) -> Result<(), NoMemory>
+        requires next { number ≡ self.old.state.opened + 1 }
+        requires fresh { at number self.old.state.streams ≡ None }
+        ensures ok { OnOk result (HasSession conn self.old self.new) }
+        ensures err { OnErr result (IsAfter self.old.state self.old self.new) }
+    {
         self.turns.reserve_stream(StreamNo(number))?;
         let slot = Slot::new_session(self.alloc, self.moment, conn, number)?;
         add_slot(&mut self.slots, number, slot)?;
@@ -135,7 +167,9 @@ impl Hub {
     }
 
     /// It isn't opened after all.
-    fn drop_session(&mut self, number: u64) {
+    fn drop_session(&mut self, number: u64)
+        ensures { self.new ≡ record (with_state (with_streams (without number self.old.state.streams) self.old.state) self.old) { store = without_session self.old.store (numbered number) } }
+    {
         drop_slot(&mut self.slots, number);
         self.store.forget(StreamNo(number));
     }
@@ -145,7 +179,17 @@ impl Hub {
         &mut self,
         tokens: &mut T,
         prepared: Prepared,
-    ) -> Result<Outs, NoMemory> {
+    ) -> Result<Outs, NoMemory>
+        requires few { (self.old.state.opened < 2 ^ 62) × (self.old.state.issued < 2 ^ 62) }
+        requires fresh { at (self.old.state.opened + 1) self.old.state.streams ≡ None }
+        requires store { StoreFits self.old }
+        requires unknown { at prepared.conn self.old.state.exchanges ≡ None }
+        requires room { length self.old.state.exchanges < MAX_CONNECTIONS }
+        ensures drawn { DrawsFrom T.drawn T.faults tokens.old tokens.new (λ draws. (body : PipelineBody) → IsPreparedFor body prepared → body.baton ≡ None
+            → GoesOr (λ ds out new. GoesPrepared body prepared.conn prepared.close self.old.state ds out new) self.old.state draws result self.new.state) }
+        ensures entered { Entered self.old self.new }
+        ensures later { T.faults tokens.old ≤ T.faults tokens.new }
+    {
         let Prepared {
             conn,
             close,
@@ -172,7 +216,17 @@ impl Hub {
         tokens: &mut T,
         prepared: Prepared,
         baton: &Txt,
-    ) -> Result<Outs, NoMemory> {
+    ) -> Result<Outs, NoMemory>
+        requires few { (self.old.state.opened < 2 ^ 62) × (self.old.state.issued < 2 ^ 62) }
+        requires fresh { at (self.old.state.opened + 1) self.old.state.streams ≡ None }
+        requires store { StoreFits self.old }
+        requires unknown { at prepared.conn self.old.state.exchanges ≡ None }
+        requires room { length self.old.state.exchanges < MAX_CONNECTIONS }
+        ensures drawn { DrawsFrom T.drawn T.faults tokens.old tokens.new (λ draws. (body : PipelineBody) → IsPreparedFor body prepared → body.baton ≡ Some baton.now
+            → GoesOr (λ ds out new. GoesPrepared body prepared.conn prepared.close self.old.state ds out new) self.old.state draws result self.new.state) }
+        ensures entered { Entered self.old self.new }
+        ensures later { T.faults tokens.old ≤ T.faults tokens.new }
+    {
         let Prepared {
             conn,
             close,
@@ -196,7 +250,17 @@ impl Hub {
         conn: u32,
         close: bool,
         body: PipelineBody,
-    ) -> Result<Outs, NoMemory> {
+    ) -> Result<Outs, NoMemory>
+        requires few { (self.old.state.opened < 2 ^ 62) × (self.old.state.issued < 2 ^ 62) }
+        requires fresh { at (self.old.state.opened + 1) self.old.state.streams ≡ None }
+        requires store { StoreFits self.old }
+        requires unknown { at conn self.old.state.exchanges ≡ None }
+        requires room { length self.old.state.exchanges < MAX_CONNECTIONS }
+        requires asked { All MayBeAsked (asked_in body.asks) }
+        ensures drawn { DrawsFrom T.drawn T.faults tokens.old tokens.new (λ draws. GoesOr (λ ds out new. GoesPrepared body conn close self.old.state ds out new) self.old.state draws result self.new.state) }
+        ensures entered { Entered self.old self.new }
+        ensures later { T.faults tokens.old ≤ T.faults tokens.new }
+    {
         let PipelineBody { baton, asks } = body;
         let begun = Exchange::begin(self.alloc, asks)?;
         let ready = make_ready(self.alloc, begun.exchange, begun.asks, close)?;
@@ -219,7 +283,16 @@ impl Hub {
         tokens: &mut T,
         conn: u32,
         ask: &HttpAsk,
-    ) -> Result<Outs, NoMemory> {
+    ) -> Result<Outs, NoMemory>
+        requires few { (self.old.state.opened < 2 ^ 62) × (self.old.state.issued < 2 ^ 62) }
+        requires fresh { at (self.old.state.opened + 1) self.old.state.streams ≡ None }
+        requires store { StoreFits self.old }
+        requires unknown { at conn self.old.state.exchanges ≡ None }
+        requires room { length self.old.state.exchanges < MAX_CONNECTIONS }
+        ensures drawn { DrawsFrom T.drawn T.faults tokens.old tokens.new (λ draws. GoesOr (λ ds out new. IsHeard self.old.token self.old.state conn ask.now ds out new) self.old.state draws result self.new.state) }
+        ensures entered { Entered self.old self.new }
+        ensures later { T.faults tokens.old ≤ T.faults tokens.new }
+    {
         let let_in = accepts(&self.token, &ask.bearer);
         match read_ask(self.alloc, ask, let_in)? {
             Asked::Answered(answer) => Ok(answers_with(conn, answer)),
@@ -233,7 +306,16 @@ impl Hub {
         tokens: &mut T,
         conn: u32,
         ask: &HttpAsk,
-    ) -> Outs {
+    ) -> Outs
+        requires few { (self.old.state.opened < 2 ^ 62) × (self.old.state.issued < 2 ^ 62) }
+        requires fresh { at (self.old.state.opened + 1) self.old.state.streams ≡ None }
+        requires store { StoreFits self.old }
+        requires unknown { at conn self.old.state.exchanges ≡ None }
+        requires room { length self.old.state.exchanges < MAX_CONNECTIONS }
+        ensures drawn { DrawsFrom T.drawn T.faults tokens.old tokens.new (λ draws. ExchangeSteps self.old.token self.old.state conn ask.now draws result self.new.state) }
+        ensures entered { Entered self.old self.new }
+        ensures later { T.faults tokens.old ≤ T.faults tokens.new }
+    {
         if let Some(answer) = route_answer(self.alloc, ask) {
             return answers_with(conn, answer);
         }
@@ -245,7 +327,10 @@ impl Hub {
 }
 
 /// The first answer where words could be drawn, and else the second.
-fn by_draw<T: Tokens>(tokens: &mut T, drawn: HttpAnswer, failed: HttpAnswer) -> HttpAnswer {
+fn by_draw<T: Tokens>(tokens: &mut T, drawn: HttpAnswer, failed: HttpAnswer) -> HttpAnswer
+    ensures drawn { DrawsFrom T.drawn T.faults tokens.old tokens.new (λ draws. (draw : Draw) × (draws ≡ draw ∷ []) × (result ≡ answer_by draw drawn failed)) }
+    ensures later { T.faults tokens.old ≤ T.faults tokens.new }
+{
     match tokens.words() {
         Ok(_) => drawn,
         Err(_) => failed,

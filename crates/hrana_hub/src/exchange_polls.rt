@@ -29,7 +29,7 @@ use hrana_value::{NoMemory, StreamNo};
 use http_wire::{HttpAnswer, Outs};
 use pipeline_body::BlankAnswer;
 use stream_requests::Reply;
-use stream_task::{Poll, Stepped, polls_reply_to_pipelines, streams_agree};
+use stream_task::{Poll, Stepped, streams_agree};
 
 impl Hub {
     /// The stream rests without a baton, and its requests are dropped.
@@ -273,7 +273,7 @@ impl Hub {
         ensures token { self.new.token ≡ self.old.token }
         ensures later { E.faults engine.old ≤ E.faults engine.new }
     {
-        polls_reply_to_pipelines();
+
         let polled = self.poll_stream(engine, stream);
         self.settle_exchange(engine, conn, close, stream, polled)
     }
