@@ -13,22 +13,26 @@ use Rattle.stream_task.specs.declared.session.TxnState.{TxnState}
 use Rattle.stream_task.specs.declared.session.TxnState.TheVariants.{Auto, Deferred, Reading, Writing, Dead, Closed}
 use Rattle.hrana_hub.specs.Maps.{Numbered, at, put, without}
 use Rattle.hrana_hub.specs.State.{Stream, State, Seen, OnlyPlaces, states_of, state_in}
-use Rattle.hrana_hub.specs.Agrees.{HubAgrees, IsNumbered, IsCounted, open_units}
+use Rattle.baton_store.specs.Batons.{Batons}
+use Rattle.hrana_hub.specs.Agrees.{HubAgrees, IsNumbered, IsCounted, IsTied, open_units}
 use Rattle.hrana_hub.proofs.EntryLemmas.{at_put, at_put_other, keys_put, at_without, at_without_other, rising_without}
+use Rattle.hrana_hub.proofs.Tied.{tied_put}
 use Rattle.hrana_hub.proofs.Waiting.{known_put}
 
 -- ---- equal states
 
-pub state_is : (a b : State) → a.conns ≡ b.conns → a.streams ≡ b.streams → a.opened ≡ b.opened → a.next ≡ b.next → a.version ≡ b.version → a.events ≡ b.events → a.now ≡ b.now → a.stopped ≡ b.stopped → a ≡ b
-state_is a b c d e f g h j i =
-    ap (λ x. record { conns = x; streams = a.streams; opened = a.opened; next = a.next; version = a.version; events = a.events; now = a.now; stopped = a.stopped }) c
-    ∙ ap (λ x. record { conns = b.conns; streams = x; opened = a.opened; next = a.next; version = a.version; events = a.events; now = a.now; stopped = a.stopped }) d
-    ∙ ap (λ x. record { conns = b.conns; streams = b.streams; opened = x; next = a.next; version = a.version; events = a.events; now = a.now; stopped = a.stopped }) e
-    ∙ ap (λ x. record { conns = b.conns; streams = b.streams; opened = b.opened; next = x; version = a.version; events = a.events; now = a.now; stopped = a.stopped }) f
-    ∙ ap (λ x. record { conns = b.conns; streams = b.streams; opened = b.opened; next = b.next; version = x; events = a.events; now = a.now; stopped = a.stopped }) g
-    ∙ ap (λ x. record { conns = b.conns; streams = b.streams; opened = b.opened; next = b.next; version = b.version; events = x; now = a.now; stopped = a.stopped }) h
-    ∙ ap (λ x. record { conns = b.conns; streams = b.streams; opened = b.opened; next = b.next; version = b.version; events = b.events; now = x; stopped = a.stopped }) j
-    ∙ ap (λ x. record { conns = b.conns; streams = b.streams; opened = b.opened; next = b.next; version = b.version; events = b.events; now = b.now; stopped = x }) i
+pub state_is : (a b : State) → a.conns ≡ b.conns → a.streams ≡ b.streams → a.exchanges ≡ b.exchanges → a.issued ≡ b.issued → a.opened ≡ b.opened → a.next ≡ b.next → a.version ≡ b.version → a.events ≡ b.events → a.now ≡ b.now → a.stopped ≡ b.stopped → a ≡ b
+state_is a b c d x i e f g h j k =
+    ap (λ z. record a { conns = z }) c
+    ∙ ap (λ z. record a { conns = b.conns; streams = z }) d
+    ∙ ap (λ z. record a { conns = b.conns; streams = b.streams; exchanges = z }) x
+    ∙ ap (λ z. record a { conns = b.conns; streams = b.streams; exchanges = b.exchanges; issued = z }) i
+    ∙ ap (λ z. record b { opened = z; next = a.next; version = a.version; events = a.events; now = a.now; stopped = a.stopped }) e
+    ∙ ap (λ z. record b { next = z; version = a.version; events = a.events; now = a.now; stopped = a.stopped }) f
+    ∙ ap (λ z. record b { version = z; events = a.events; now = a.now; stopped = a.stopped }) g
+    ∙ ap (λ z. record b { events = z; now = a.now; stopped = a.stopped }) h
+    ∙ ap (λ z. record b { now = z; stopped = a.stopped }) j
+    ∙ ap (λ z. record b { stopped = z }) k
 
 -- ---- the states of the streams
 
@@ -138,8 +142,8 @@ units_without n x (e ∷ es) f = by (units_without n x es) (is_at (nat_cmp n) e.
 
 -- ---- what has to do with no unit
 
--- these are the streams now, and nothing else changed that is agreed on
-pub record Stays (old new : Seen) (streams : Numbered Stream) : Type 0 where
+-- these are the streams now, and nothing else changed that is agreed on but the store of batons
+pub record Moves (old new : Seen) (streams : Numbered Stream) : Type 0 where
   pub streams_are : new.state.streams ≡ streams
   pub opened : new.state.opened ≡ old.state.opened
   pub next : new.state.next ≡ old.state.next
@@ -149,26 +153,45 @@ pub record Stays (old new : Seen) (streams : Numbered Stream) : Type 0 where
   pub noted : new.noted.next ≡ old.noted.next
   pub places : old.noted.spare ≤ new.noted.spare
 
-counts_stay : (old new : Seen) (streams : Numbered Stream) → Stays old new streams → IsCounted old.state → IsCounted new.state
-counts_stay old new streams s h = record { streams = omega (arith, s.opened, s.events, h.streams); units = omega (arith, s.next, s.events, h.units); commits = omega (arith, s.version, s.events, h.commits) }
+-- what is agreed on of the store
+pub record StoreAgrees (h : Seen) : Type 0 where
+  pub few : h.state.issued ≤ h.state.events
+  pub issued : h.store.issued ≡ h.state.issued
+  pub tied : h.state.stopped ≡ false → IsTied h.state.streams h.store
+
+-- the store is as it was
+pub record StoreStays (old new : Seen) : Type 0 where
+  pub issued : new.state.issued ≡ old.state.issued
+  pub stopped : new.state.stopped ≡ old.state.stopped
+  pub store : new.store ≡ old.store
+
+pub record Stays (old new : Seen) (streams : Numbered Stream) : Type 0 where
+  pub moves : Moves old new streams
+  pub stays : StoreStays old new
+
+counts_stay : (old new : Seen) (streams : Numbered Stream) → Moves old new streams → new.state.issued ≤ new.state.events → IsCounted old.state → IsCounted new.state
+counts_stay old new streams s few h = record { streams = omega (arith, s.opened, s.events, h.streams); units = omega (arith, s.next, s.events, h.units); commits = omega (arith, s.version, s.events, h.commits); batons = few }
 
 -- nothing changed but the list of entries, and the places for more
-pub stays_same : (old new : Seen) → new.state ≡ old.state → new.turns ≡ old.turns → new.noted.next ≡ old.noted.next → old.noted.spare ≤ new.noted.spare → Stays old new old.state.streams
-stays_same old new state turns next places = record {
-  streams_are = ap (λ (s : State). s.streams) state;
-  opened = ap (λ (s : State). s.opened) state;
-  next = ap (λ (s : State). s.next) state;
-  version = ap (λ (s : State). s.version) state;
-  events = (let e = ap (λ (s : State). s.events) state in omega (arith, e));
-  turns = turns;
-  noted = next;
-  places = places;
+pub stays_same : (old new : Seen) → new.state ≡ old.state → new.turns ≡ old.turns → new.store ≡ old.store → new.noted.next ≡ old.noted.next → old.noted.spare ≤ new.noted.spare → Stays old new old.state.streams
+stays_same old new state turns store next places = record {
+  moves = record {
+    streams_are = ap (λ (s : State). s.streams) state;
+    opened = ap (λ (s : State). s.opened) state;
+    next = ap (λ (s : State). s.next) state;
+    version = ap (λ (s : State). s.version) state;
+    events = (let e = ap (λ (s : State). s.events) state in omega (arith, e));
+    turns = turns;
+    noted = next;
+    places = places;
+  };
+  stays = record { issued = ap (λ (s : State). s.issued) state; stopped = ap (λ (s : State). s.stopped) state; store = store };
 }
 
 module _ {D : Type 0} (told shared : Bool) (db : D) (live : Lives D) (old new : Seen) where
-  agrees_still : (streams : Numbered Stream) → HubAgrees told shared db live old → Stays old new streams → ((k : ℕ) → states_of streams k ≡ states_of old.state.streams k) → ((k : ℕ) → IsSome (at k old.state.streams) → IsSome (at k streams))
-      → IsNumbered new.state → open_units streams ≤ old.noted.spare → HubAgrees told shared db live new
-  agrees_still streams h s same known numbers units = record {
+  agrees_left : (streams : Numbered Stream) → HubAgrees told shared db live old → Moves old new streams → ((k : ℕ) → states_of streams k ≡ states_of old.state.streams k) → ((k : ℕ) → IsSome (at k old.state.streams) → IsSome (at k streams))
+      → IsNumbered new.state → open_units streams ≤ old.noted.spare → StoreAgrees new → HubAgrees told shared db live new
+  agrees_left streams h s same known numbers units store = record {
     together = subst (λ t. Together told shared db live t new.noted.next (states_of new.state.streams)) (sym s.turns)
         (subst (λ n. Together told shared db live old.turns n (states_of new.state.streams)) (sym s.noted)
         (together_as told shared db live old.turns old.noted.next (states_of old.state.streams) (states_of new.state.streams) (λ k. ap (λ es. states_of es k) s.streams_are ∙ same k) h.together));
@@ -177,19 +200,33 @@ module _ {D : Type 0} (told shared : Bool) (db : D) (live : Lives D) (old new : 
     version = s.version ∙ h.version ∙ ap (λ (t : Turns). t.version) (sym s.turns);
     next = s.next ∙ h.next ∙ sym s.noted;
     places = (let l = ap open_units s.streams_are in omega (arith, l, units, s.places));
-    counts = counts_stay old new streams s h.counts;
+    counts = counts_stay old new streams s store.few h.counts;
+    tied = store.tied;
+    issued = store.issued;
+  }
+
+  -- the store is as it was
+  store_still : (streams : Numbered Stream) → HubAgrees told shared db live old → Stays old new streams → (IsTied old.state.streams old.store → IsTied streams old.store) → StoreAgrees new
+  store_still streams h s ties = record {
+    few = omega (arith, s.stays.issued, s.moves.events, h.counts.batons);
+    issued = ap (λ (b : Batons). b.issued) s.stays.store ∙ h.issued ∙ sym s.stays.issued;
+    tied = λ runs. subst (IsTied new.state.streams) (sym s.stays.store) (subst (λ es. IsTied es old.store) (sym s.moves.streams_are) (ties (h.tied (sym s.stays.stopped ∙ runs))));
   }
 
   -- the streams are the same
   pub same_agrees : HubAgrees told shared db live old → Stays old new old.state.streams → HubAgrees told shared db live new
-  same_agrees h s = agrees_still old.state.streams h s (λ k. refl) (λ k some. some) (numbers_as old.state new.state s.streams_are s.opened h.numbers) h.places
+  same_agrees h s = agrees_left old.state.streams h s.moves (λ k. refl) (λ k some. some) (numbers_as old.state new.state s.moves.streams_are s.moves.opened h.numbers) h.places (store_still old.state.streams h s (λ t. t))
 
   -- one has another task in the same state
-  pub stays_agrees : (n : ℕ) (x y : Stream) → HubAgrees told shared db live old → at n old.state.streams ≡ Some x → y.task.stream ≡ x.task.stream → y.task.session.state ≡ x.task.session.state → Stays old new (put n y old.state.streams) → HubAgrees told shared db live new
-  stays_agrees n x y h e stream state s =
+  pub moves_agrees : (n : ℕ) (x y : Stream) → HubAgrees told shared db live old → at n old.state.streams ≡ Some x → y.task.stream ≡ x.task.stream → y.task.session.state ≡ x.task.session.state → Moves old new (put n y old.state.streams) → StoreAgrees new → HubAgrees told shared db live new
+  moves_agrees n x y h e stream state s store =
       let units = units_put n x y old.state.streams e in
       let opens = ap open_of state in
-      agrees_still (put n y old.state.streams) h s (same_states n x y old.state.streams e state) (λ k some. known_put n k x y old.state.streams e some) (numbers_put old.state new.state n x y e stream s.streams_are s.opened h.numbers) (omega (arith, units, opens, h.places))
+      agrees_left (put n y old.state.streams) h s (same_states n x y old.state.streams e state) (λ k some. known_put n k x y old.state.streams e some) (numbers_put old.state new.state n x y e stream s.streams_are s.opened h.numbers) (omega (arith, units, opens, h.places)) store
+
+  -- and waits for what it waited for
+  pub stays_agrees : (n : ℕ) (x y : Stream) → HubAgrees told shared db live old → at n old.state.streams ≡ Some x → y.task.stream ≡ x.task.stream → y.task.session.state ≡ x.task.session.state → y.session ≡ x.session → Stays old new (put n y old.state.streams) → HubAgrees told shared db live new
+  stays_agrees n x y h e stream state session s = moves_agrees n x y h e stream state s.moves (store_still (put n y old.state.streams) h s (tied_put n x y old.state.streams old.store e session))
 
   pub places_agrees : HubAgrees told shared db live old → OnlyPlaces old new → HubAgrees told shared db live new
-  places_agrees h o = same_agrees h (stays_same old new o.state o.turns o.next o.places)
+  places_agrees h o = same_agrees h (stays_same old new o.state o.turns o.store o.next o.places)

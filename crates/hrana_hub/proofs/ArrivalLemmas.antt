@@ -30,41 +30,43 @@ after s old new e same = record {
   state = ap (λ (h : Seen). h.state) e;
   token = ap (λ (h : Seen). h.token) e;
   noted = ap (λ (h : Seen). h.noted) e;
+  store = ap (λ (h : Seen). h.store) e;
   turns = inl (ap (λ (h : Seen). h.turns) e, ap (λ (h : Seen). h.state.opened) e ∙ same);
 }
 
 -- in the words of the state that is left
 pub stayed : (s : State) (old new : Seen) → IsAfter s old new → IsAfter new.state old new
-stayed s old new h = record { state = refl; token = h.token; noted = h.noted; turns = h.turns }
+stayed s old new h = record { state = refl; token = h.token; noted = h.noted; store = h.store; turns = h.turns }
 
 pub same_after : (old : Seen) → IsAfter old.state old old
-same_after old = record { state = refl; token = refl; noted = refl; turns = inl (refl, refl) }
+same_after old = record { state = refl; token = refl; noted = refl; store = refl; turns = inl (refl, refl) }
 
--- a hub, by its parts
-abbrev pub seen_as : Option (List ℕ) → Numbered Conn → Numbered Stream → ℕ → ℕ → ℕ → Bool → Turns → Noted → Seen
-seen_as token conns streams opened events now stopped turns noted =
-    record { token = token; state = record { conns = conns; streams = streams; opened = opened; next = noted.next; version = turns.version; events = events; now = now; stopped = stopped }; turns = turns; noted = noted }
+-- the hub with these connections, streams and turns
+abbrev pub with_parts : Numbered Conn → Numbered Stream → Turns → Seen → Seen
+with_parts conns streams turns h = record h { state = record h.state { conns = conns; streams = streams; version = turns.version }; turns = turns }
 
 -- nothing changed but a place in the table of turns
-pub only_place : (token : Option (List ℕ)) (conns conns' : Numbered Conn) (streams streams' : Numbered Stream) (opened events now : ℕ) (stopped : Bool) (t t' : Turns) (noted : Noted) (old : Seen)
-    → seen_as token conns streams opened events now stopped t noted ≡ old → conns' ≡ conns → streams' ≡ streams → t' ≡ with_place t (numbered (opened + 1)) → IsAfter old.state old (seen_as token conns' streams' opened events now stopped t' noted)
-only_place token conns conns' streams streams' opened events now stopped t t' noted old e p q r =
-    let state : Numbered Conn → Numbered Stream → ℕ → State = λ c s v. record { conns = c; streams = s; opened = opened; next = noted.next; version = v; events = events; now = now; stopped = stopped } in
-    subst (λ (h : Seen). IsAfter h.state h (seen_as token conns' streams' opened events now stopped t' noted)) e (record {
-      state = ap (λ c. state c streams' t'.version) p ∙ (ap (λ s. state conns s t'.version) q ∙ ap (λ (u : Turns). state conns streams u.version) r);
+pub only_place : (conns : Numbered Conn) (streams : Numbered Stream) (turns : Turns) (h old : Seen) → h ≡ old → h.state.version ≡ h.turns.version → conns ≡ h.state.conns → streams ≡ h.state.streams → turns ≡ with_place h.turns (numbered (h.state.opened + 1))
+    → IsAfter old.state old (with_parts conns streams turns h)
+only_place conns streams turns h old e v p q r =
+    subst (λ (o : Seen). IsAfter o.state o (with_parts conns streams turns h)) e (record {
+      state = ap (λ c. record h.state { conns = c; streams = streams; version = turns.version }) p
+          ∙ (ap (λ s. record h.state { streams = s; version = turns.version }) q
+          ∙ (ap (λ (u : Turns). record h.state { version = u.version }) r ∙ ap (λ n. record h.state { version = n }) (sym v)));
       token = refl;
       noted = refl;
+      store = refl;
       turns = inr r;
     })
 
 -- one connection changed
-pub conn_after : (c : ℕ) (k : Conn) (token : Option (List ℕ)) (conns conns' : Numbered Conn) (streams : Numbered Stream) (opened events now : ℕ) (stopped : Bool) (t : Turns) (noted : Noted) (old : Seen)
-    → seen_as token conns streams opened events now stopped t noted ≡ old → conns' ≡ put c k conns → IsAfter (with_conn c k old.state) old (seen_as token conns' streams opened events now stopped t noted)
-conn_after c k token conns conns' streams opened events now stopped t noted old e p =
-    subst (λ (h : Seen). IsAfter (with_conn c k h.state) h (seen_as token conns' streams opened events now stopped t noted)) e (record {
-      state = ap (λ (cs : Numbered Conn). let s : State = record { conns = cs; streams = streams; opened = opened; next = noted.next; version = t.version; events = events; now = now; stopped = stopped } in s) p;
+pub conn_after : (c : ℕ) (k : Conn) (conns : Numbered Conn) (h old : Seen) → h ≡ old → conns ≡ put c k h.state.conns → IsAfter (with_conn c k old.state) old (with_state (record h.state { conns = conns }) h)
+conn_after c k conns h old e p =
+    subst (λ (o : Seen). IsAfter (with_conn c k o.state) o (with_state (record h.state { conns = conns }) h)) e (record {
+      state = ap (λ (cs : Numbered Conn). record h.state { conns = cs }) p;
       token = refl;
       noted = refl;
+      store = refl;
       turns = inl (refl, refl);
     })
 
@@ -79,6 +81,7 @@ closed_after c k old mid new h known closes =
       state = ap (λ (x : Seen). x.state) e ∙ ap (with_conn c (shut k)) h.state;
       token = ap (λ (x : Seen). x.token) e ∙ h.token;
       noted = ap (λ (x : Seen). x.noted) e ∙ h.noted;
+      store = ap (λ (x : Seen). x.store) e ∙ h.store;
       turns = elim h.turns [ inl same ↦ inl (turns ∙ same.0, opened ∙ same.1) | inr place ↦ inr (turns ∙ place) ];
     }
 
@@ -113,7 +116,7 @@ some_at (Some x) e = (x, refl)
 
 -- nothing changed
 pub arrives_same : (went : Went) (old : Seen) (r : Result Outs NoMemory) → went.state ≡ old.state → IfOk r (λ out. out ≡ went.given) → Arrives went r old old
-arrives_same went old (Ok out) e given = (given, record { state = sym e; token = refl; noted = refl; turns = inl (refl, refl) })
+arrives_same went old (Ok out) e given = (given, record { state = sym e; token = refl; noted = refl; store = refl; turns = inl (refl, refl) })
 arrives_same went old (Err short) e given = same_after old
 
 pub arrives_as : (went went' : Went) (r : Result Outs NoMemory) (old new : Seen) → went' ≡ went → Arrives went r old new → Arrives went' r old new

@@ -7,11 +7,13 @@ use Rattle.engine_core.specs.declared.statement.BoundStmt.{BoundStmt}
 use Rattle.engine_core.specs.declared.entries.Answer.{Answer}
 use Rattle.stream_task.specs.Leads.{StandsFor, BeginsStanding}
 use Rattle.stream_task.specs.Together.{States, Together, BeginsTogether, IsOwned, unit_at, numbered}
-use Rattle.hrana_hub.specs.Agrees.{IsNumbered, IsCounted, IsNew, NewHubAgrees, TakingAgrees, NothingLives, open_units}
+use Rattle.hrana_hub.specs.Agrees.{IsNumbered, IsCounted, IsTied, IsNew, NewHubAgrees, TakingAgrees, NothingLives, open_units}
 use Rattle.hrana_hub.specs.State.{Stream, State, Seen, states_of}
 use Rattle.hrana_hub.proofs.MapLemmas.{none_some, rises_nil}
 use Rattle.hrana_hub.proofs.Adding.{alike, hub_stands}
+use Rattle.baton_store.specs.Batons.{Batons, no_batons}
 use Rattle.hrana_hub.proofs.Agreeing.{same_agrees, stays_same}
+use Rattle.hrana_hub.proofs.Tied.{tied_first}
 
 -- what holds of the first table, the first number and no stream
 at_first : (P : Turns → ℕ → States → Type 0) (given : Option (List ℕ)) (h : Seen) → IsNew given h → P no_turns 1 (λ n. None) → P h.turns h.noted.next (states_of h.state.streams)
@@ -27,14 +29,16 @@ new_agrees told shared m begins stands token h db live new none = (
     version = ap (λ (s : State). s.version) new.state ∙ sym (ap (λ (t : Turns). t.version) new.turns);
     next = ap (λ (s : State). s.next) new.state ∙ sym new.next;
     places = (let units = ap (λ (s : State). open_units s.streams) new.state in omega (arith, units));
-    counts = subst IsCounted (sym new.state) (record { streams = omega arith; units = omega arith; commits = omega arith });
+    counts = subst IsCounted (sym new.state) (record { streams = omega arith; units = omega arith; commits = omega arith; batons = omega arith });
+    tied = λ runs. subst (IsTied h.state.streams) (sym new.store) (subst (λ (s : State). IsTied s.streams no_batons) (sym new.state) tied_first);
+    issued = ap (λ (b : Batons). b.issued) new.store ∙ sym (ap (λ (s : State). s.issued) new.state);
   },
   at_first (λ t k states. StandsFor shared m db [] db live t k states) token h new (stands db live none),
 )
 
 pub taken_agrees : {D : Type 0} (told shared : Bool) (m : Meaning D BoundStmt Answer) → TakingAgrees told shared m
 taken_agrees told shared m old new db live taken = (
-  λ h. same_agrees told shared db live old new h (stays_same old new taken.state taken.turns taken.next taken.places),
+  λ h. same_agrees told shared db live old new h (stays_same old new taken.state taken.turns taken.store taken.next taken.places),
   λ first journal h. hub_stands shared m db live old new (alike old new (ap (λ (s : State). s.streams) taken.state) taken.turns taken.next) first journal h,
 )
 

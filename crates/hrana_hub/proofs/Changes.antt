@@ -36,14 +36,16 @@ use Rattle.stream_task.specs.declared.texts.StoredText.{StoredText}
 use Rattle.stream_task.specs.declared.work.Work.{Work}
 use Rattle.hrana_hub.specs.declared.events.Event.{Event}
 use Rattle.hrana_hub.specs.declared.events.Event.TheVariants.{Opened, Text, Binary, Exchange, Lost, Moment, Poll, Stop}
-use Rattle.hrana_hub.specs.declared.limits.TheConstants.{MAX_CONNECTIONS, MAX_SESSIONS, MAX_STREAMS, MAX_OUTSTANDING, MAX_STORED_TEXTS, MAX_STORED_BYTES, MAX_EVENTS}
+use Rattle.hrana_hub.specs.declared.limits.TheConstants.{MAX_CONNECTIONS, MAX_SESSIONS, MAX_STREAMS, MAX_OUTSTANDING, MAX_EVENTS}
+use Rattle.stream_task.specs.declared.limits.TheConstants.{MAX_STORED_TEXTS, MAX_STORED_BYTES}
+use Rattle.stream_task.specs.Texts.{stored_bytes, is_full, without_text}
 use Rattle.hrana_hub.specs.declared.sessions.Running.{Running as Runs}
 use Rattle.hrana_hub.specs.declared.sessions.Session.{Session}
 use Rattle.hrana_hub.specs.declared.sessions.Session.TheVariants.{Resting, Running}
 use Rattle.hrana_hub.specs.Maps.{at, id_at}
 use Rattle.hrana_hub.specs.State.{Conn, Stream, State, of_exchanges}
-use Rattle.hrana_hub.specs.Texts.{stored_bytes, without_text, put_text, put_stmt, put_steps, put_ask, as_execute, as_batch, as_sequence}
-use Rattle.hrana_hub.specs.Arrivals.{Went, quiet, nothing, accepts, on_hello, greeted, shut, with_texts, with_conn, closing, opens, opens_unless, with_stream, unopened, asks, asks_at, queues, with_request, stores, stores_unless, is_full, on_request, on_numbered, if_greeted, on_answer}
+use Rattle.hrana_hub.specs.Texts.{put_text, put_stmt, put_steps, put_ask, as_execute, as_batch, as_sequence}
+use Rattle.hrana_hub.specs.Arrivals.{Went, quiet, nothing, accepts, on_hello, greeted, shut, with_texts, with_conn, closing, opens, opens_unless, with_stream, unopened, asks, asks_at, queues, with_request, stores, stores_unless, on_request, on_numbered, if_greeted, on_answer}
 use Rattle.hrana_hub.specs.Polled.{Polled, PollFell}
 use Rattle.hrana_hub.specs.Ended.{ends_of, without_conn, all_ends, at_its_end}
 use Rattle.hrana_hub.specs.Exchanges.{SessionPolled, SessionFell, fresh_session, with_session, sessions_in, starts, opens_unless as session_opens, Does, IsHeard, GoesBy, GoesDrawn, GoesAsked}

@@ -1,5 +1,5 @@
 -- The end of a stream, and of many one after another.
-use Rattle.std.proofs.Common.{◌≡◌, ◌≢◌, ◌≤◌, ◌<◌, ◌+◌, ℕ, Bool, true, false, List, [], ◌∷◌, ◌++◌, length, take, drop, get_or, Option, None, Some, option_to_list, refl, sym, ap, ◌∙◌, subst, arith, append-nil, append_assoc, nat_cmp, IsTrue, is_some, true≢false, inl, inr}
+use Rattle.std.proofs.Common.{◌≡◌, ◌≢◌, ◌≤◌, ◌<◌, ◌+◌, ℕ, Bool, true, false, cond, List, [], ◌∷◌, ◌++◌, length, take, drop, get_or, Option, None, Some, option_to_list, refl, sym, ap, ◌∙◌, subst, arith, append-nil, append_assoc, nat_cmp, IsTrue, is_some, true≢false, inl, inr}
 use Rattle.std.specs.Option.{IsSome}
 use Rattle.std.specs.List.{All}
 use Rattle.std.specs.List.Sorted.{IsStrictlySortedBy}
@@ -25,9 +25,11 @@ use Rattle.stream_task.specs.Together.{AgreesAt, Put, HasEnded, EndsTogether, Ea
 use Rattle.stream_task.specs.declared.session.TxnState.{TxnState}
 use Rattle.stream_task.specs.declared.session.TxnState.TheVariants.{Auto, Deferred, Reading, Writing, Dead, Closed}
 use Rattle.hrana_hub.specs.Maps.{Numbered, at, without}
-use Rattle.hrana_hub.specs.State.{Conn, Stream, State, Seen, states_of, state_in}
+use Rattle.hrana_hub.specs.State.{Conn, Stream, State, Seen, states_of, state_in, of_exchanges}
 use Rattle.hrana_hub.specs.Adds.{Adds, LeadsOn}
-use Rattle.hrana_hub.specs.Agrees.{HubAgrees, IsNumbered, open_units, HubStands}
+use Rattle.baton_store.specs.Batons.{Batons}
+use Rattle.baton_store.specs.Batons.{without as without_session}
+use Rattle.hrana_hub.specs.Agrees.{HubAgrees, IsNumbered, IsTied, open_units, HubStands, forgets}
 use Rattle.hrana_hub.specs.Ended.{end_of, ends_of, let_go, without_conn, all_ends, at_its_end, HasLeft, IsGone, Frees}
 use Rattle.hrana_hub.specs.Arrivals.{nothing}
 use Rattle.hrana_hub.specs.Polled.{with_streams}
@@ -89,6 +91,10 @@ pub record EndDid {X D : Type 0} (told shared : Bool) (m : Meaning D BoundStmt A
   pub next : new.state.next ≡ new.noted.next
   pub version : new.state.version ≡ new.turns.version
   pub events : new.state.events ≡ old.state.events
+  pub issued : new.state.issued ≡ old.state.issued
+  pub stopped : new.state.stopped ≡ old.state.stopped
+  pub store_issued : new.store.issued ≡ old.store.issued
+  pub ties : IsTied old.state.streams old.store → IsTied new.state.streams new.store
 
 -- a stream that is shut doesn't hold the turn, nor does one that is gone
 shut_turn : {D : Type 0} (told : Bool) (db : D) (live : Lives D) (t : Turns) (n : ℕ) (o : Option TxnState) → is_open o ≡ false → AgreesAt told db live t n o → t.turn ≢ Some (numbered n)
@@ -137,7 +143,10 @@ module _ {X D : Type 0} (told shared : Bool) (m : Meaning D BoundStmt Answer) (d
           streams = omega (arith, did.opened, did.events, h.counts.streams);
           units = (let e : new.state.next ≡ old.state.next = did.next ∙ same_next ∙ sym h.next in omega (arith, e, did.events, h.counts.units));
           commits = (let e : new.state.version ≡ old.state.version = did.version ∙ same_version ∙ sym h.version in omega (arith, e, did.events, h.counts.commits));
+          batons = omega (arith, did.issued, did.events, h.counts.batons);
         };
+        tied = λ runs. did.ties (h.tied (sym did.stopped ∙ runs));
+        issued = did.store_issued ∙ h.issued ∙ sym did.issued;
       }
 
   end_leads : EndsLead told shared m db live faults → IsTrue told → LeadsOn shared m (db engine) (live engine) (db engine') (live engine') old new (option_to_list did.ended.ends.adds.added)
@@ -156,6 +165,14 @@ module _ {X D : Type 0} (told shared : Bool) (m : Meaning D BoundStmt Answer) (d
         waits = ap (λ (t : Turns). has (numbered n) t.waiters) lost ∙ has_gone (numbered n) did.ended.ends.between.waiters;
         place = ap (λ (t : Turns). has (numbered n) t.reserved) lost ∙ has_gone (numbered n) did.ended.ends.between.reserved;
       }
+
+-- a stream that leaves the store issues nothing
+pub forgets_issued : (x : Stream) (n : ℕ) (store : Batons) → (forgets x n store).issued ≡ store.issued
+forgets_issued x n store = by (of_exchanges x)
+  where
+    by : (b : Bool) → (cond b (without_session store (numbered n)) store).issued ≡ store.issued
+    by true = refl
+    by false = refl
 
 -- ---- what is left of the stream
 
@@ -212,17 +229,14 @@ gone_more numbers i all es rest l is e = e ∙ at_drop_more (λ ns. let_go ns es
 
 -- ---- a connection that isn't known
 
-pub lost_unknown : (s : State) (c : ℕ) (conns : Numbered Conn) (out : Outs) → at c s.conns ≡ None → conns ≡ without c s.conns → out ≡ nothing
-    → LostAt s c (at c s.conns) [] out (record { conns = conns; streams = s.streams; opened = s.opened; next = s.next; version = s.version; events = s.events; now = s.now; stopped = s.stopped })
-lost_unknown s c conns out unknown is given =
-    let same : conns ≡ s.conns = is ∙ without_unknown c s.conns unknown in
-    subst (λ o. LostAt s c o [] out (record { conns = conns; streams = s.streams; opened = s.opened; next = s.next; version = s.version; events = s.events; now = s.now; stopped = s.stopped })) (sym unknown)
-    (record { none = refl; given = given; left = ap (λ x. record { conns = x; streams = s.streams; opened = s.opened; next = s.next; version = s.version; events = s.events; now = s.now; stopped = s.stopped }) same })
+abbrev pub with_conns : Numbered Conn → State → State
+with_conns conns s = record s { conns = conns }
+
+-- over WebSocket: it may be one whose exchange isn't answered yet
+pub lost_unknown : (s : State) (c : ℕ) (conns : Numbered Conn) → at c s.conns ≡ None → conns ≡ without c s.conns → with_conns conns s ≡ s
+lost_unknown s c conns unknown is = ap (λ cs. with_conns cs s) (is ∙ without_unknown c s.conns unknown)
 
 -- ---- a connection that is lost
-
-abbrev pub with_conns : Numbered Conn → State → State
-with_conns conns s = record { conns = conns; streams = s.streams; opened = s.opened; next = s.next; version = s.version; events = s.events; now = s.now; stopped = s.stopped }
 
 pub lost_leaves : (c : ℕ) (k : Conn) (numbers : List ℕ) (conns : Numbered Conn) (h old : Seen) (new : State) → h ≡ old → numbers ≡ k.streams → conns ≡ without c h.state.conns
     → new ≡ with_streams (let_go numbers h.state.streams) (with_conns conns h.state) → new ≡ without_conn c k old.state
@@ -234,11 +248,11 @@ lost_known s c k added out new known ends given left = subst (λ o. LostAt s c o
 
 -- ---- the end of all
 
-abbrev pub stopped_with : Numbered Conn → State → State
-stopped_with conns s = record { conns = conns; streams = s.streams; opened = s.opened; next = s.next; version = s.version; events = s.events; now = s.now; stopped = true }
+abbrev pub stopped_with : Numbered Conn → Numbered ℕ → State → State
+stopped_with conns exchanges s = record s { conns = conns; exchanges = exchanges; stopped = true }
 
-pub stop_leaves : (conns : Numbered Conn) (s old : State) → conns ≡ [] → s ≡ with_streams [] old → stopped_with conns s ≡ at_its_end old
-stop_leaves conns s old none left = ap (λ cs. stopped_with cs s) none ∙ ap (stopped_with []) left
+pub stop_leaves : (conns : Numbered Conn) (exchanges : Numbered ℕ) (s old : State) → conns ≡ [] → exchanges ≡ [] → s ≡ with_streams [] old → stopped_with conns exchanges s ≡ at_its_end old
+stop_leaves conns exchanges s old none free left = ap (λ cs. stopped_with cs exchanges s) none ∙ ap (λ es. stopped_with [] es s) free ∙ ap (stopped_with [] []) left
 
 -- ---- what a loss frees
 

@@ -1,5 +1,5 @@
 -- Streams that expire, the first that is due after the other.
-use Rattle.std.proofs.Common.{◌≡◌, ◌≢◌, ◌≤◌, ◌<◌, ◌+◌, ◌⊎◌, ◌&&◌, ℕ, Bool, true, false, not, cond, nat_le, nat_lt, List, [], ◌∷◌, ◌++◌, length, Option, None, Some, MatchBool, refl, sym, ap, ◌∙◌, subst, arith, inl, inr, nat_cmp, is_some, append_assoc, true≢false}
+use Rattle.std.proofs.Common.{◌≡◌, ◌≢◌, ◌≤◌, ◌<◌, ◌+◌, ◌-◌, ◌⊎◌, ◌&&◌, ◌||◌, ℕ, Bool, true, false, not, cond, nat_le, nat_lt, List, [], ◌∷◌, ◌++◌, length, Option, None, Some, MatchBool, refl, sym, ap, ◌∙◌, subst, arith, inl, inr, nat_cmp, is_some, append_assoc, true≢false}
 use Rattle.std.specs.Option.{IsSome}
 use Rattle.std.specs.BTreeMap.{is_at}
 use Rattle.std.specs.List.Sorted.{IsStrictlySortedBy}
@@ -12,32 +12,32 @@ use Rattle.engine_core.specs.declared.entries.Undo.TheVariants as undo
 use Rattle.engine_core.specs.Transactions.{Lives}
 use Rattle.stream_task.specs.Session.{open_of}
 use Rattle.stream_task.specs.Together.{Put, AgreesAt, numbered}
-use Rattle.hrana_hub.specs.Maps.{Numbered, at, put, each, first_that}
-use Rattle.hrana_hub.specs.State.{Stream, State, Seen, states_of, state_in}
+use Rattle.hrana_hub.specs.Maps.{Numbered, at, put, without, left_at, and_left, those_left, first_that}
+use Rattle.hrana_hub.specs.State.{Stream, State, Seen, states_of, state_in, of_exchanges}
 use Rattle.hrana_hub.specs.Agrees.{HubAgrees, IsNumbered, open_units}
 use Rattle.hrana_hub.specs.Arrivals.{nothing, quiet}
 use Rattle.hrana_hub.specs.Ended.{end_of}
-use Rattle.hrana_hub.specs.Moments.{is_due, expired, after, first_due, expiries, at_moment, HasExpired, Expire}
+use Rattle.hrana_hub.specs.Moments.{is_due, expired, left_of, after, first_due, expiries, at_moment, HasExpired, Expire}
+use Rattle.hrana_hub.specs.declared.limits.TheConstants.{EXPIRY_MS}
 use Rattle.hrana_hub.specs.Polled.{with_streams}
 use Rattle.hrana_hub.specs.Step.{MomentAt, Goes}
-use Rattle.hrana_hub.proofs.EntryLemmas.{is_here, is_apart, at_put, at_put_other}
+use Rattle.txn_table.specs.Turns.{Turns}
+use Rattle.hrana_hub.proofs.EntryLemmas.{is_here, is_apart, at_put, at_put_other, at_without_other, without_first}
 use Rattle.hrana_hub.proofs.MapLemmas.{none_some, some_one, at_first, at_later, put_first, put_later, AllAbove, Rises, rises_head, rises_tail}
 use Rattle.hrana_hub.proofs.Agreeing.{put_states, numbers_put, units_put}
 use Rattle.hrana_hub.proofs.Waiting.{known_put}
 
 -- ---- what is left of a stream that expired
 
-not_due : (now : ℕ) (x : Stream) → is_due now (expired x) ≡ false
-not_due now x = refl
-
-after_expired : (now : ℕ) (x : Stream) → after now (expired x) ≡ expired x
-after_expired now x = refl
-
-pub after_due : (now : ℕ) (x : Stream) → is_due now x ≡ true → after now x ≡ expired x
+pub after_due : (now : ℕ) (x : Stream) → is_due now x ≡ true → after now x ≡ left_of x
 after_due now x e = rw e refl
 
-pub after_other : (now : ℕ) (x : Stream) → is_due now x ≡ false → after now x ≡ x
+pub after_other : (now : ℕ) (x : Stream) → is_due now x ≡ false → after now x ≡ Some x
 after_other now x e = rw e refl
+
+-- a stream of a connection that expired isn't due any more
+not_due : (now : ℕ) (x : Stream) → of_exchanges x ≡ false → is_due now (expired x) ≡ false
+not_due now x e = ap (λ b. (b || false) && true && nat_le EXPIRY_MS (now - x.last_answer)) e
 
 pub record IsDead (n : ℕ) (x : Stream) (old new : State) : Type 0 where
   pub states : Put (states_of old.streams) (states_of new.streams) n (Some (expired x).task.session.state)
@@ -59,6 +59,10 @@ dead_of n x old new h known streams opened = record {
 abbrev pub NoneBelow : ℕ → ℕ → Numbered Stream → Type 0
 NoneBelow now from [] = Unit {0}
 NoneBelow now from (e ∷ es) = (e.0 < from → is_due now e.1 ≡ false) × NoneBelow now from es
+
+above_below : (now n : ℕ) (es : Numbered Stream) → AllAbove n es → NoneBelow now n es
+above_below now n [] a = tt
+above_below now n (e ∷ es) a = ((λ l. absurd (omega (arith, l, a.0))), above_below now n es a.1)
 
 pub none_below_first : (now : ℕ) (es : Numbered Stream) → NoneBelow now 0 es
 none_below_first now [] = tt
@@ -94,39 +98,85 @@ found now from n (e ∷ es) r b f = found_by now from n e es r b.0 (λ g. found 
 
 -- ---- what it leaves
 
+-- what has become of the stream is none that is due
+pub data Left (now n : ℕ) (x : Stream) : Option Stream → Type 0 where
+  gone : Left now n x None
+  stays : (y : Stream) → is_due now y ≡ false → Left now n x (Some y)
+
+pub left_as : (now n : ℕ) (x : Stream) → Left now n x (left_of x)
+left_as now n x = by (of_exchanges x) refl
+  where
+    by : (b : Bool) → of_exchanges x ≡ b → Left now n x (cond b None (Some (expired x)))
+    by true e = gone
+    by false e = stays (expired x) (not_due now x e)
+
 pub found_known : (now n : ℕ) {es : Numbered Stream} → Found now n es → (x : Stream) × (at n es ≡ Some x)
 found_known now n (here e es own due above) = (e.1, at_first n e es own)
 found_known now n (later e es other due f) = (let k = found_known now n f in (k.0, at_later n e es other ∙ k.1))
 
-expiries_found : (now n : ℕ) (x : Stream) {es : Numbered Stream} → Found now n es → at n es ≡ Some x → expiries now es ≡ end_of undo.Expired (at n es) ++ expiries now (put n (expired x) es)
-expiries_found now n x (here e es own due above) k = rw (put_first n (expired x) e es own, at_first n e es own, due) refl
-expiries_found now n x (later e es other due f) k = rw (put_later n (expired x) e es other, at_later n e es other, due) (expiries_found now n x f (sym (at_later n e es other) ∙ k))
+-- the first is gone, or has become another
+left_first : (n : ℕ) (o : Option Stream) (e : ℕ × Stream) (es : Numbered Stream) → n ≡ e.0 → left_at n o (e ∷ es) ≡ and_left e.0 o es
+left_first n None e es own = ap (λ k. without k (e ∷ es)) own ∙ without_first e es
+left_first n (Some y) e es own = put_first n y e es own
 
-each_found : (now n : ℕ) (x : Stream) {es : Numbered Stream} → Found now n es → at n es ≡ Some x → each (after now) es ≡ each (after now) (put n (expired x) es)
-each_found now n x (here e es own due above) k =
-    let same : e.1 ≡ x = some_one (sym (at_first n e es own) ∙ k) in
-    rw (put_first n (expired x) e es own) (ap (λ (y : Stream). let fs : Numbered Stream = (e.0, y) ∷ each (after now) es in fs) (after_due now e.1 due ∙ ap expired same))
-each_found now n x (later e es other due f) k = rw (put_later n (expired x) e es other) (ap (λ fs. (e.0, after now e.1) ∷ fs) (each_found now n x f (sym (at_later n e es other) ∙ k)))
+left_later : (n : ℕ) (o : Option Stream) (e : ℕ × Stream) (es : Numbered Stream) → n ≢ e.0 → left_at n o (e ∷ es) ≡ e ∷ left_at n o es
+left_later n None e es other = ap (λ b. cond b es (e ∷ without n es)) (is_apart n e.0 other)
+left_later n (Some y) e es other = put_later n y e es other
 
-pub count_found : (now n : ℕ) (x : Stream) {es : Numbered Stream} → Found now n es → due_count now (put n (expired x) es) + 1 ≡ due_count now es
-count_found now n x (here e es own due above) = rw (put_first n (expired x) e es own, due) (omega arith)
-count_found now n x (later e es other due f) = rw (put_later n (expired x) e es other) (omega (arith, count_found now n x f))
+module _ (now n : ℕ) (x : Stream) (o : Option Stream) (left : Left now n x o) where
+  none_expire : (k : ℕ) (es : Numbered Stream) → expiries now (and_left k o es) ≡ expiries now es
+  none_expire k es = by left
+    where
+      by : {p : Option Stream} → Left now n x p → expiries now (and_left k p es) ≡ expiries now es
+      by gone = refl
+      by (stays y quiet) = rw quiet refl
 
-above_below : (now n : ℕ) (es : Numbered Stream) → AllAbove n es → NoneBelow now n es
-above_below now n [] a = tt
-above_below now n (e ∷ es) a = ((λ l. absurd (omega (arith, l, a.0))), above_below now n es a.1)
+  expiries_found : {es : Numbered Stream} → Found now n es → at n es ≡ Some x → expiries now es ≡ end_of undo.Expired (at n es) ++ expiries now (left_at n o es)
+  expiries_found (here e es own due above) k = rw (left_first n o e es own, at_first n e es own, due) (ap (λ l. end_of undo.Expired (Some e.1) ++ l) (sym (none_expire e.0 es)))
+  expiries_found (later e es other due f) k = rw (left_later n o e es other, at_later n e es other, due) (expiries_found f (sym (at_later n e es other) ∙ k))
 
-pub below_found : (now n : ℕ) (x : Stream) {es : Numbered Stream} → Found now n es → NoneBelow now n (put n (expired x) es)
-below_found now n x (here e es own due above) = rw (put_first n (expired x) e es own) ((λ l. absurd (omega (arith, l, own))), above_below now n es above)
-below_found now n x (later e es other due f) = rw (put_later n (expired x) e es other) ((λ l. due), below_found now n x f)
+  those_here : (k : ℕ) (es : Numbered Stream) → those_left (after now) (and_left k o es) ≡ and_left k o (those_left (after now) es)
+  those_here k es = by left
+    where
+      by : {p : Option Stream} → Left now n x p → those_left (after now) (and_left k p es) ≡ and_left k p (those_left (after now) es)
+      by gone = refl
+      by (stays y quiet) = rw quiet refl
 
--- the entries so far, and those of the streams that are left
-pub expiries_on : (now n : ℕ) (x : Stream) (all done one : List Entry) (es : Numbered Stream) → Found now n es → at n es ≡ Some x → all ≡ done ++ expiries now es → one ≡ end_of undo.Expired (at n es) → all ≡ (done ++ one) ++ expiries now (put n (expired x) es)
-expiries_on now n x all done one es f k e is =
-    e ∙ ap (λ l. done ++ l) (expiries_found now n x f k ∙ ap (λ l. l ++ expiries now (put n (expired x) es)) (sym is)) ∙ sym (append_assoc done one (expiries now (put n (expired x) es)))
+  those_found : {es : Numbered Stream} → o ≡ left_of x → Found now n es → at n es ≡ Some x → those_left (after now) es ≡ those_left (after now) (left_at n o es)
+  those_found is (here e es own due above) k =
+      let same : e.1 ≡ x = some_one (sym (at_first n e es own) ∙ k) in
+      rw (left_first n o e es own) (ap (λ (p : Option Stream). and_left e.0 p (those_left (after now) es)) (after_due now e.1 due ∙ ap left_of same ∙ sym is) ∙ sym (those_here e.0 es))
+  those_found is (later e es other due f) k = rw (left_later n o e es other) (ap (and_left e.0 (after now e.1)) (those_found is f (sym (at_later n e es other) ∙ k)))
 
-pub each_on : (now n : ℕ) (x : Stream) (all es : Numbered Stream) → Found now n es → at n es ≡ Some x → all ≡ each (after now) es → all ≡ each (after now) (put n (expired x) es)
-each_on now n x all es f k e = e ∙ each_found now n x f k
+  none_count : (k : ℕ) (es : Numbered Stream) → due_count now (and_left k o es) ≡ due_count now es
+  none_count k es = by left
+    where
+      by : {p : Option Stream} → Left now n x p → due_count now (and_left k p es) ≡ due_count now es
+      by gone = refl
+      by (stays y quiet) = rw quiet (omega arith)
+
+  pub count_found : {es : Numbered Stream} → Found now n es → due_count now (left_at n o es) + 1 ≡ due_count now es
+  count_found (here e es own due above) = rw (left_first n o e es own, due) (omega (arith, none_count e.0 es))
+  count_found (later e es other due f) = rw (left_later n o e es other) (omega (arith, count_found f))
+
+  none_below : (k : ℕ) (es : Numbered Stream) → n ≡ k → AllAbove n es → NoneBelow now n (and_left k o es)
+  none_below k es own above = by left
+    where
+      by : {p : Option Stream} → Left now n x p → NoneBelow now n (and_left k p es)
+      by gone = above_below now n es above
+      by (stays y quiet) = ((λ l. quiet), above_below now n es above)
+
+  pub below_found : {es : Numbered Stream} → Found now n es → NoneBelow now n (left_at n o es)
+  below_found (here e es own due above) = rw (left_first n o e es own) (none_below e.0 es own above)
+  below_found (later e es other due f) = rw (left_later n o e es other) ((λ l. due), below_found f)
+
+  -- the entries so far, and those of the streams that are left
+  pub expiries_on : (all done one : List Entry) (es : Numbered Stream) → Found now n es → at n es ≡ Some x → all ≡ done ++ expiries now es → one ≡ end_of undo.Expired (at n es) → all ≡ (done ++ one) ++ expiries now (left_at n o es)
+  expiries_on all done one es f k e is =
+      e ∙ ap (λ l. done ++ l) (expiries_found f k ∙ ap (λ l. l ++ expiries now (left_at n o es)) (sym is)) ∙ sym (append_assoc done one (expiries now (left_at n o es)))
+
+  pub those_on : (all es : Numbered Stream) → o ≡ left_of x → Found now n es → at n es ≡ Some x → all ≡ those_left (after now) es → all ≡ those_left (after now) (left_at n o es)
+  those_on all es is f k e = e ∙ those_found is f k
 
 -- ---- where none is due any more
 
@@ -149,9 +199,9 @@ pub quiet_expiries : (now : ℕ) (es : Numbered Stream) → AllQuiet now es → 
 quiet_expiries now [] q = refl
 quiet_expiries now (e ∷ es) q = rw (q.0) (quiet_expiries now es q.1)
 
-pub quiet_each : (now : ℕ) (es : Numbered Stream) → AllQuiet now es → each (after now) es ≡ es
-quiet_each now [] q = refl
-quiet_each now (e ∷ es) q = rw (q.0) (ap (λ fs. e ∷ fs) (quiet_each now es q.1))
+pub quiet_left : (now : ℕ) (es : Numbered Stream) → AllQuiet now es → those_left (after now) es ≡ es
+quiet_left now [] q = refl
+quiet_left now (e ∷ es) q = rw (q.0) (ap (λ fs. e ∷ fs) (quiet_left now es q.1))
 
 pub quiet_at : (now n : ℕ) (x : Stream) (es : Numbered Stream) → AllQuiet now es → at n es ≡ Some x → is_due now x ≡ false
 quiet_at now n x [] q k = absurd (none_some k)
@@ -162,34 +212,31 @@ quiet_at now n x (e ∷ es) q k = elim (cases_eq n e.0) [
 
 -- ---- all of them
 
-pub at_each : {A : Type 0} (f : A → A) (n : ℕ) (x : A) (es : Numbered A) → at n es ≡ Some x → at n (each f es) ≡ Some (f x)
-at_each f n x [] k = absurd (none_some k)
-at_each f n x (e ∷ es) k = elim (cases_eq n e.0) [
-  | inl own ↦ at_first n (e.0, f e.1) (each f es) own ∙ ap (λ y. Some (f y)) (some_one (sym (at_first n e es own) ∙ k))
-  | inr other ↦ at_later n (e.0, f e.1) (each f es) other ∙ at_each f n x es (sym (at_later n e es other) ∙ k)
-]
-
-pub at_each_none : {A : Type 0} (f : A → A) (n : ℕ) (es : Numbered A) → at n es ≡ None → at n (each f es) ≡ None
-at_each_none f n [] k = refl
-at_each_none f n (e ∷ es) k = elim (cases_eq n e.0) [
-  | inl own ↦ absurd (none_some (sym k ∙ at_first n e es own))
-  | inr other ↦ at_later n (e.0, f e.1) (each f es) other ∙ at_each_none f n es (sym (at_later n e es other) ∙ k)
-]
-
-pub keys_each : {A : Type 0} (f : A → A) (es : Numbered A) → keys_of (each f es) ≡ keys_of es
-keys_each f [] = refl
-keys_each f (e ∷ es) = ap (λ ks. e.0 ∷ ks) (keys_each f es)
-
-pub rises_each : {A : Type 0} (f : A → A) (es : Numbered A) → Rises es → Rises (each f es)
-rises_each f es r = subst (IsStrictlySortedBy nat_cmp) (sym (keys_each f es)) r
-
--- what stands there now stood there before
-pub each_cases : {A : Type 0} (f : A → A) (n : ℕ) (z : A) (es : Numbered A) → at n (each f es) ≡ Some z → (x : A) × (at n es ≡ Some x) × (z ≡ f x)
-each_cases {A} f n z es k = by (at n es) refl
+pub above_left : {A : Type 0} (f : A → Option A) (m : ℕ) (es : Numbered A) → AllAbove m es → AllAbove m (those_left f es)
+above_left f m [] a = tt
+above_left f m (e ∷ es) a = by (f e.1)
   where
-    by : (o : Option A) → at n es ≡ o → (x : A) × (at n es ≡ Some x) × (z ≡ f x)
-    by None e = absurd (none_some (sym (at_each_none f n es e) ∙ k))
-    by (Some x) e = (x, e, some_one (sym k ∙ at_each f n x es e))
+    by : (o : Option A) → AllAbove m (and_left e.0 o (those_left f es))
+    by None = above_left f m es a.1
+    by (Some y) = (a.0, above_left f m es a.1)
+
+none_above : {A : Type 0} (n : ℕ) (es : Numbered A) → AllAbove n es → at n es ≡ None
+none_above n [] a = refl
+none_above n (e ∷ es) a = at_later n e es (λ own. omega (arith, own, a.0)) ∙ none_above n es a.1
+
+pub at_left : {A : Type 0} (f : A → Option A) (n : ℕ) (x : A) (es : Numbered A) → Rises es → at n es ≡ Some x → at n (those_left f es) ≡ f x
+at_left f n x [] r k = absurd (none_some k)
+at_left {A} f n x (e ∷ es) r k = elim (cases_eq n e.0) [
+  | inl own ↦ here (f e.1) own ∙ ap f (some_one (sym (at_first n e es own) ∙ k))
+  | inr other ↦ later (f e.1) other ∙ at_left f n x es (rises_tail e es r) (sym (at_later n e es other) ∙ k)
+]
+  where
+    here : (o : Option A) → n ≡ e.0 → at n (and_left e.0 o (those_left f es)) ≡ o
+    here None own = none_above n (those_left f es) (above_left f n es (subst (λ m. AllAbove m es) (sym own) (rises_head e es r)))
+    here (Some y) own = at_first n (e.0, y) (those_left f es) own
+    later : (o : Option A) → n ≢ e.0 → at n (and_left e.0 o (those_left f es)) ≡ at n (those_left f es)
+    later None other = refl
+    later (Some y) other = at_later n (e.0, y) (those_left f es) other
 
 -- ---- who waits
 
@@ -200,12 +247,17 @@ Silent now old mid = (n : ℕ) (x : Stream) → at n old.state.streams ≡ Some 
 pub silent_first : (now : ℕ) (old : Seen) → Silent now old old
 silent_first now old n x k due = inl k
 
-pub silent_on : (now n : ℕ) (x : Stream) (old mid new : Seen) → at n mid.state.streams ≡ Some x → new.state.streams ≡ put n (expired x) mid.state.streams → has (numbered n) new.turns.waiters ≡ false
+-- another stream is as it was
+left_other : (n k : ℕ) (x : Stream) (o : Option Stream) (es : Numbered Stream) → Rises es → at n es ≡ Some x → k ≢ n → at k (left_at n o es) ≡ at k es
+left_other n k x None es r known other = at_without_other n k es r other
+left_other n k x (Some y) es r known other = at_put_other n k x y es known other
+
+pub silent_on : (now n : ℕ) (x : Stream) (o : Option Stream) (old mid new : Seen) → Rises mid.state.streams → at n mid.state.streams ≡ Some x → new.state.streams ≡ left_at n o mid.state.streams → has (numbered n) new.turns.waiters ≡ false
     → ((k : ℕ) → has (numbered k) new.turns.waiters ≡ true → has (numbered k) mid.turns.waiters ≡ true) → Silent now old mid → Silent now old new
-silent_on now n x old mid new known streams silent fewer h k y is due = elim (cases_eq k n) [
+silent_on now n x o old mid new rises known streams silent fewer h k y is due = elim (cases_eq k n) [
   | inl own ↦ inr (ap (λ j. has (numbered j) new.turns.waiters) own ∙ silent)
   | inr other ↦ elim (h k y is due) [
-    | inl stands ↦ inl (ap (λ es. at k es) streams ∙ at_put_other n k x (expired x) mid.state.streams known other ∙ stands)
+    | inl stands ↦ inl (ap (λ es. at k es) streams ∙ left_other n k x o mid.state.streams rises known other ∙ stands)
     | inr gone ↦ inr (elim (cases_Bool (has (numbered k) new.turns.waiters)) [
       | inl waits ↦ absurd (true≢false (sym (fewer k waits) ∙ gone))
       | inr fine ↦ fine
@@ -213,12 +265,19 @@ silent_on now n x old mid new known streams silent fewer h k y is due = elim (ca
   ]
 ]
 
-pub expire_frees : {D : Type 0} (told shared : Bool) (db : D) (live : Lives D) (now : ℕ) (old new : Seen) → HubAgrees told shared db live new → AllQuiet now new.state.streams → new.state.streams ≡ each (after now) old.state.streams → Silent now old new → Expire now old new
-expire_frees told shared db live now old new a quiet streams silent n x known due =
-    let stands : at n new.state.streams ≡ Some (expired x) = ap (λ es. at n es) streams ∙ at_each (after now) n x old.state.streams known ∙ ap Some (after_due now x due) in
+left_turn : {D : Type 0} (told : Bool) (db : D) (live : Lives D) (t : Turns) (n : ℕ) (x : Stream) → AgreesAt told db live t n (state_in (left_of x)) → t.turn ≢ Some (numbered n)
+left_turn told db live t n x h = by (of_exchanges x) h
+  where
+    by : (b : Bool) → AgreesAt told db live t n (state_in (cond b None (Some (expired x)))) → t.turn ≢ Some (numbered n)
+    by true g = g
+    by false g = g
+
+pub expire_frees : {D : Type 0} (told shared : Bool) (db : D) (live : Lives D) (now : ℕ) (old new : Seen) → Rises old.state.streams → HubAgrees told shared db live new → AllQuiet now new.state.streams → new.state.streams ≡ those_left (after now) old.state.streams → Silent now old new → Expire now old new
+expire_frees told shared db live now old new rises a quiet streams silent n x known due =
+    let stands : at n new.state.streams ≡ left_of x = ap (λ es. at n es) streams ∙ at_left (after now) n x old.state.streams rises known ∙ after_due now x due in
     record {
       stream = stands;
-      turn = subst (λ o. AgreesAt told db live new.turns n o) (ap state_in stands) (a.together.agree n);
+      turn = left_turn told db live new.turns n x (subst (λ o. AgreesAt told db live new.turns n o) (ap state_in stands) (a.together.agree n));
       waits = elim (silent n x known due) [
         | inl still ↦ absurd (true≢false (sym due ∙ quiet_at now n x new.state.streams quiet still))
         | inr fine ↦ fine

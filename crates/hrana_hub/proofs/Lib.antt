@@ -30,3 +30,4 @@ pub mod Following
 pub mod Versions
 pub mod IdLists
 pub mod Counted
+pub mod Tied

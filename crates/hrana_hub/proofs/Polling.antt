@@ -30,11 +30,12 @@ use Rattle.stream_task.specs.declared.work.Work.{Work}
 use Rattle.hrana_hub.specs.Maps.{Numbered, at, put, without}
 use Rattle.hrana_hub.specs.State.{Conn, Stream, State, Seen, states_of, with_state}
 use Rattle.hrana_hub.specs.Adds.{Adds, LeadsOn}
-use Rattle.hrana_hub.specs.Agrees.{HubAgrees, IsAhead, open_units}
+use Rattle.baton_store.specs.Batons.{Batons}
+use Rattle.hrana_hub.specs.Agrees.{HubAgrees, IsAhead, IsTied, open_units}
 use Rattle.hrana_hub.specs.Ended.{end_of}
 use Rattle.hrana_hub.specs.Arrivals.{nothing, quiet, tells, with_conn, shut}
-use Rattle.hrana_hub.specs.Polled.{Polled, PollFell, with_entry, with_streams, seen_of, reply_in, is_over, polled, streams_left, replied, dropped, is_closed, first_id, answer, FellShort}
-use Rattle.hrana_hub.specs.Settled.{PollsStream, Settles, PollEnds, Tells, Drops, with_task, after_told, after_fall, after_passed, passed}
+use Rattle.hrana_hub.specs.Polled.{Polled, PollFell, with_entry, with_streams, with_task, passed, seen_of, reply_in, is_over, polled, streams_left, replied, dropped, is_closed, first_id, answer, FellShort}
+use Rattle.hrana_hub.specs.Settled.{PollsStream, Settles, PollEnds, Tells, Drops, after_told, after_fall, after_passed}
 use Rattle.hrana_hub.specs.Calls.{is_heard}
 use Rattle.hrana_hub.specs.Step.{is_short, closes_short, Goes, Heard, PolledAt, PollSteps}
 use Rattle.hrana_hub.proofs.Adding.{Alike, adds_none, adds_from, adds_one}
@@ -42,6 +43,7 @@ use Rattle.hrana_hub.proofs.EntryLemmas.{at_put, put_same, put_put, without_put,
 use Rattle.hrana_hub.proofs.Waiting.{waiters_put}
 use Rattle.hrana_hub.proofs.Agreeing.{state_is, put_states, same_states, numbers_put, units_few, stays_agrees}
 use Rattle.hrana_hub.proofs.Ending.{number_of, state_at}
+use Rattle.hrana_hub.proofs.Tied.{tied_put}
 
 -- ---- a poll, before what it gave is told
 
@@ -55,6 +57,9 @@ pub record PollDid {X D : Type 0} (told shared : Bool) (m : Meaning D BoundStmt 
   pub spare : old.noted.spare ≤ new.noted.spare + 1
   pub conns : new.state.conns ≡ old.state.conns
   pub streams : new.state.streams ≡ put n (with_task task x) old.state.streams
+  pub exchanges : new.state.exchanges ≡ old.state.exchanges
+  pub issued : new.state.issued ≡ old.state.issued
+  pub store : new.store ≡ old.store
   pub opened : new.state.opened ≡ old.state.opened
   pub next : new.state.next ≡ new.noted.next
   pub version : new.state.version ≡ new.turns.version
@@ -117,7 +122,10 @@ module _ {X D : Type 0} (told shared : Bool) (m : Meaning D BoundStmt Answer) (d
           streams = omega (arith, p.opened, p.events, h.counts.streams);
           units = omega (arith, next_left, next_one old.state.next p.did.adds.added, p.events, p.ahead.units);
           commits = omega (arith, version_left, version_one old.state.version p.did.adds.added, p.events, p.ahead.commits);
+          batons = omega (arith, p.issued, p.events, p.ahead.batons);
         };
+        tied = λ runs. subst (IsTied new.state.streams) (sym p.store) (subst (λ es. IsTied es old.store) (sym p.streams) (tied_put n x (with_task task x) old.state.streams old.store p.known refl (h.tied (sym p.stopped ∙ runs))));
+        issued = ap (λ (b : Batons). b.issued) p.store ∙ h.issued ∙ sym p.issued;
       }
 
   here : TurnIsWriters old.turns (states_of old.state.streams) → PollsStream shared old.state n x (option_to_list p.did.adds.added) result new.state
@@ -131,7 +139,7 @@ module _ {X D : Type 0} (told shared : Bool) (m : Meaning D BoundStmt Answer) (d
         polls = subst (λ v. Polls shared (record { by = old.turns.turn; version = v; next = old.state.next }) x.task e result task) (sym p.agrees.version)
             (subst (λ k. Polls shared (record { by = old.turns.turn; version = old.turns.version; next = k }) x.task e result task) (sym p.agrees.next) p.did.adds.holds);
         one = refl;
-        left = state_is new.state (with_entry e (with_streams (put n (with_task task x) old.state.streams) old.state)) p.conns p.streams p.opened next_left version_left p.events p.now p.stopped;
+        left = state_is new.state (with_entry e (with_streams (put n (with_task task x) old.state.streams) old.state)) p.conns p.streams p.exchanges p.issued p.opened next_left version_left p.events p.now p.stopped;
       }
 
   poll_leads : PollsLead told shared m db live faults → IsTrue told → LeadsOn shared m (db engine) (live engine) (db engine') (live engine') old new (option_to_list p.did.adds.added)
@@ -164,7 +172,7 @@ none_replied n k =
 
 -- where no reply is given nothing changes
 pub untold : (n c : ℕ) (x : Stream) (k : Conn) (s : State) → at c s.conns ≡ Some k → at n s.streams ≡ Some x → s ≡ after_told n c k x None s
-untold n c x k s e f = state_is s (after_told n c k x None s) (sym (ap (λ l. put c l s.conns) (none_replied n k) ∙ put_same c k s.conns e)) (sym (put_same n x s.streams f)) refl refl refl refl refl refl
+untold n c x k s e f = state_is s (after_told n c k x None s) (sym (ap (λ l. put c l s.conns) (none_replied n k) ∙ put_same c k s.conns e)) (sym (put_same n x s.streams f)) refl refl refl refl refl refl refl refl
 
 told_polled : (shared : Bool) (s mid new : State) (n c : ℕ) (x : Stream) (k : Conn) (added : List Entry) (result : Poll Stepped) (out : Outs) → (p : PollsStream shared s n x added result mid) → Tells mid n c (with_task p.task x) k result out new → Polled shared s n c x k added out new
 told_polled shared s mid new n c x k added result out p t = record {
@@ -267,13 +275,14 @@ pub record PutBoth (old new : Seen) (n c : ℕ) : Type 0 where
   pub known : at n old.state.streams ≡ Some before
   pub stream : after.task.stream ≡ before.task.stream
   pub state : after.task.session.state ≡ before.task.session.state
+  pub session : after.session ≡ before.session
   pub is : new ≡ with_state (with_conn c conn (with_streams (put n after old.state.streams) old.state)) old
 
 pub put_agrees : {D : Type 0} (told shared : Bool) (db : D) (live : Lives D) (old new : Seen) (n c : ℕ) → PutBoth old new n c → HubAgrees told shared db live old → HubAgrees told shared db live new
 put_agrees told shared db live old new n c p h =
     let left : Seen = with_state (with_conn c p.conn (with_streams (put n p.after old.state.streams) old.state)) old in
     subst (HubAgrees told shared db live) (sym p.is)
-    (stays_agrees told shared db live old left n p.before p.after h p.known p.stream p.state (record { streams_are = refl; opened = refl; next = refl; version = refl; events = omega arith; turns = refl; noted = refl; places = omega arith }))
+    (stays_agrees told shared db live old left n p.before p.after h p.known p.stream p.state p.session (record { moves = record { streams_are = refl; opened = refl; next = refl; version = refl; events = omega arith; turns = refl; noted = refl; places = omega arith }; stays = record { issued = refl; stopped = refl; store = refl } }))
 
 pub put_token : (old new : Seen) (n c : ℕ) → PutBoth old new n c → new.token ≡ old.token
 put_token old new n c p = ap (λ (h : Seen). h.token) p.is
@@ -301,11 +310,12 @@ passes_put old new n c e p = record {
   known = e.stream_at;
   stream = refl;
   state = refl;
+  session = refl;
   is = p e.conn e.stream reply.Closed e.conn_at e.stream_at;
 }
 
 abbrev pub with_conns : Numbered Conn → Seen → Seen
-with_conns conns h = with_state (record { conns = conns; streams = h.state.streams; opened = h.state.opened; next = h.state.next; version = h.state.version; events = h.state.events; now = h.state.now; stopped = h.state.stopped }) h
+with_conns conns h = with_state (record h.state { conns = conns }) h
 
 -- the first request of the stream was passed, and then its connection was told
 pub both_passed : (old mid : Seen) (n c : ℕ) (over : Bool) (k : Conn) (x : Stream) (reply : Reply) (conns : Numbered Conn) → mid ≡ with_state (with_streams (put n (passed old.state.now x) old.state.streams) old.state) old → over ≡ is_closed x.task.session.state → conns ≡ put c (replied n over (Some reply) k) mid.state.conns
@@ -350,6 +360,7 @@ falls_put old new n c e p = record {
   known = e.stream_at;
   stream = refl;
   state = refl;
+  session = refl;
   is = p e.conn e.stream e.conn_at e.stream_at;
 }
 

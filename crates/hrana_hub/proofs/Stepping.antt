@@ -46,10 +46,10 @@ comes_counted s (Poll stream) = refl
 comes_counted s Stop = refl
 
 pub counted_ahead : (s : State) → IsCounted s → s.events < MAX_EVENTS → IsAhead (counted s)
-counted_ahead s c l = record { streams = omega (arith, c.streams); units = omega (arith, c.units); commits = omega (arith, c.commits); few = omega (arith, l) }
+counted_ahead s c l = record { streams = omega (arith, c.streams); units = omega (arith, c.units); commits = omega (arith, c.commits); batons = omega (arith, c.batons); few = omega (arith, l) }
 
 pub counted_agrees : {D : Type 0} (told shared : Bool) (db : D) (live : Lives D) (h : Seen) → HubAgrees told shared db live h → HubAgrees told shared db live (with_state (counted h.state) h)
-counted_agrees told shared db live h a = same_agrees told shared db live h (with_state (counted h.state) h) a (record { streams_are = refl; opened = refl; next = refl; version = refl; events = omega arith; turns = refl; noted = refl; places = omega arith })
+counted_agrees told shared db live h a = same_agrees told shared db live h (with_state (counted h.state) h) a (record { moves = record { streams_are = refl; opened = refl; next = refl; version = refl; events = omega arith; turns = refl; noted = refl; places = omega arith }; stays = record { issued = refl; stopped = refl; store = refl } })
 
 -- ---- the step
 

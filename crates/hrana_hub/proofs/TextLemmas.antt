@@ -75,8 +75,8 @@ put_keeps texts (ask.Cursor batch) put may e = absurd may
 put_keeps texts (ask.Fetch count) put may e = absurd may
 put_keeps texts ask.CloseCursor put may e = absurd may
 put_keeps texts ask.GetAutocommit put may e = subst MayBeAsked (some_one e) tt
-put_keeps texts (ask.StoreSql number sql) put may e = absurd may
-put_keeps texts (ask.CloseSql number) put may e = absurd may
+put_keeps texts (ask.StoreSql number sql) put may e = subst MayBeAsked (some_one e) tt
+put_keeps texts (ask.CloseSql number) put may e = subst MayBeAsked (some_one e) tt
 put_keeps texts ask.Close put may e = subst MayBeAsked (some_one e) tt
 
 pub put_asked : (texts : List StoredText) (what : Ask) (r : Result (Option Ask) NoMemory) → MayBeAsked what → IfOk r (λ put. put ≡ put_ask texts what) → IfOk r (λ put. IfSome put MayBeAsked)

@@ -1,5 +1,5 @@
 -- What holds between the hub and the engine before each event and after it.
-use Rattle.std.specs.Prelude.{◌≡◌, ◌<◌, ◌≤◌, ◌+◌, ◌^◌, ◌↔◌, ℕ, Bool, true, false, List, [], ◌∷◌, Option, None, Some, IsSome, Contains}
+use Rattle.std.specs.Prelude.{◌≡◌, ◌<◌, ◌≤◌, ◌+◌, ◌^◌, ◌↔◌, ℕ, Bool, true, false, cond, List, [], ◌∷◌, Option, None, Some, IsSome, Contains}
 use Rattle.std.specs.Ordering.{nat_cmp}
 use Rattle.std.specs.List.Sorted.{IsStrictlySortedBy}
 use Rattle.std.specs.Map.{keys_of}
@@ -10,6 +10,7 @@ use Rattle.engine_core.specs.declared.entries.Answer.{Answer}
 use Rattle.engine_core.specs.declared.entries.Entry.{Entry}
 use Rattle.txn_table.specs.Turns.{no_turns, has}
 use Rattle.baton_store.specs.Batons.{Batons, no_batons, HasBaton}
+use Rattle.baton_store.specs.Batons.{without as without_session}
 use Rattle.hrana_hub.specs.declared.sessions.Session.{Session}
 use Rattle.hrana_hub.specs.declared.sessions.Session.TheVariants.{Resting}
 use Rattle.stream_task.specs.Leads.{StandsFor}
@@ -52,6 +53,10 @@ rests_for text at = Resting (Some (record { text = text; at = at }))
 pub record IsTied (streams : Numbered Stream) (store : Batons) : Type 0 where
   pub placed : (n : ℕ) (x : Stream) → at n streams ≡ Some x → of_exchanges x ≡ true → Contains store.reserved (numbered n)
   pub held : (n : ℕ) (text : List ℕ) (moment : ℕ) → HasBaton store.unused text (numbered n) moment ↔ ((x : Stream) × (at n streams ≡ Some x) × (x.session ≡ Some (rests_for text moment)))
+
+-- the store once the stream has left: one of exchanges leaves its place and its baton
+abbrev pub forgets : Stream → ℕ → Batons → Batons
+forgets x n store = cond (of_exchanges x) (without_session store (numbered n)) store
 
 -- The live transactions are the open units, the turn is held by the stream that writes, and where the engine tells, its views
 -- are those that the streams need. Who waits for the turn is a stream. There is a place for the entry of each unit's end.

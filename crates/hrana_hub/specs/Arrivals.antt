@@ -1,5 +1,5 @@
 -- What a text of a connection does: what is given, and the state then.
-use Rattle.std.specs.Prelude.{◌≡◌, ◌⊎◌, ◌+◌, ℕ, ℤ, Bool, true, false, ◌||◌, nat_lt, nat_le, cond, length, List, [], ◌∷◌, ◌++◌, Option, None, Some, Result, Ok, Err}
+use Rattle.std.specs.Prelude.{◌≡◌, ◌⊎◌, ◌+◌, ℕ, ℤ, Bool, true, false, nat_le, cond, length, List, [], ◌∷◌, ◌++◌, Option, None, Some, Result, Ok, Err}
 use Rattle.std.specs.Prelude.{bytes_eq}
 use Rattle.serde_json.specs.Written.{compact_text}
 use Rattle.hrana_value.specs.declared.failures.NoMemory.{NoMemory}
@@ -25,14 +25,15 @@ use Rattle.http_wire.specs.declared.outs.Outs.{Outs}
 use Rattle.http_wire.specs.declared.outs.Out.{Out}
 use Rattle.http_wire.specs.declared.outs.Out.TheVariants.{Message}
 use Rattle.stream_task.specs.Checks.{stored_text}
+use Rattle.stream_task.specs.Texts.{is_full, without_text}
 use Rattle.stream_task.specs.Polls.{new_task, asked}
 use Rattle.stream_task.specs.declared.texts.StoredText.{StoredText}
-use Rattle.hrana_hub.specs.declared.limits.TheConstants.{MAX_STREAMS, MAX_STORED_TEXTS, MAX_STORED_BYTES}
+use Rattle.hrana_hub.specs.declared.limits.TheConstants.{MAX_STREAMS}
 use Rattle.hrana_hub.specs.Maps.{at, put, placed, id_at, id_placed, without_id}
 use Rattle.txn_table.specs.Turns.{with_place}
 use Rattle.stream_task.specs.Together.{numbered}
 use Rattle.hrana_hub.specs.State.{Conn, Stream, State, Seen}
-use Rattle.hrana_hub.specs.Texts.{stored_bytes, without_text, put_ask}
+use Rattle.hrana_hub.specs.Texts.{put_ask}
 
 -- ---- what is given
 
@@ -151,9 +152,6 @@ asks None c k stream id what s = unopened c id what s
 asks (Some n) c k stream id what s = asks_at n (at n s.streams) c k stream id what s
 
 -- ---- stored texts
-
-abbrev pub is_full : List StoredText → List ℕ → Bool
-is_full texts sql = nat_le MAX_STORED_TEXTS (length texts) || nat_lt MAX_STORED_BYTES (stored_bytes texts + length sql)
 
 abbrev pub stores_unless : Bool → ℕ → Conn → ℤ → ℤ → List ℕ → State → Went
 stores_unless true c k id number sql s = saying c (refusal id code.TooManyTexts) s

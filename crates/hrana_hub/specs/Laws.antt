@@ -9,11 +9,12 @@ use Rattle.engine_core.specs.declared.entries.How.TheVariants as how
 use Rattle.stream_task.specs.Session.{is_shut}
 use Rattle.hrana_hub.specs.declared.events.Event.{Event}
 use Rattle.hrana_hub.specs.declared.events.Event.TheVariants.{Poll}
-use Rattle.hrana_hub.specs.declared.limits.TheConstants.{MAX_CONNECTIONS, MAX_SESSIONS, MAX_STREAMS, MAX_OUTSTANDING, MAX_STORED_TEXTS, MAX_STORED_BYTES}
+use Rattle.hrana_hub.specs.declared.limits.TheConstants.{MAX_CONNECTIONS, MAX_SESSIONS, MAX_STREAMS, MAX_OUTSTANDING}
+use Rattle.stream_task.specs.declared.limits.TheConstants.{MAX_STORED_TEXTS, MAX_STORED_BYTES}
 use Rattle.hrana_hub.specs.Maps.{Numbered, at}
 use Rattle.hrana_hub.specs.State.{Conn, Stream, State, of_exchanges}
 use Rattle.hrana_hub.specs.Exchanges.{sessions_in}
-use Rattle.hrana_hub.specs.Texts.{stored_bytes}
+use Rattle.stream_task.specs.Texts.{stored_bytes}
 use Rattle.hrana_hub.specs.Run.{Run, RunFrom}
 use Rattle.hrana_hub.specs.Step.{Step, fits}
 

@@ -11,6 +11,7 @@ pub mod Moments
 pub mod Step
 pub mod Settled
 pub mod ExchangeSettled
+pub mod ExchangeArrived
 pub mod Agrees
 pub mod Adds
 pub mod Calls

@@ -28,6 +28,11 @@ abbrev pub and_left : {A : Type 0} → ℕ → Option A → Numbered A → Numbe
 and_left n None entries = entries
 and_left n (Some x) entries = (n, x) ∷ entries
 
+-- what stood at the number has become this, or is gone
+abbrev pub left_at : {A : Type 0} → ℕ → Option A → Numbered A → Numbered A
+left_at n None entries = without n entries
+left_at n (Some x) entries = put n x entries
+
 -- each has become another, or is gone
 abbrev pub those_left : {A : Type 0} → (A → Option A) → Numbered A → Numbered A
 those_left f [] = []

@@ -1,6 +1,5 @@
 -- Stored texts, put into what is asked of a stream.
-use Rattle.std.specs.Prelude.{◌+◌, ℕ, ℤ, not, List, [], ◌∷◌, Option, None, Some, length, filter}
-use Rattle.std.specs.Ordering.{int_eq}
+use Rattle.std.specs.Prelude.{ℕ, List, [], ◌∷◌, Option, None, Some}
 use Rattle.hrana_stmt.specs.declared.statements.Stmt.{Stmt}
 use Rattle.hrana_stmt.specs.declared.statements.SqlRef.{SqlRef}
 use Rattle.hrana_stmt.specs.declared.statements.SqlRef.TheVariants as sql
@@ -9,16 +8,6 @@ use Rattle.stream_requests.specs.declared.asks.Ask.{Ask}
 use Rattle.stream_requests.specs.declared.asks.Ask.TheVariants as ask
 use Rattle.stream_task.specs.Checks.{text_of}
 use Rattle.stream_task.specs.declared.texts.StoredText.{StoredText}
-
--- ---- the texts of a connection
-
--- how many bytes they have together
-abbrev pub stored_bytes : List StoredText → ℕ
-stored_bytes [] = 0
-stored_bytes (text ∷ texts) = length text.sql + stored_bytes texts
-
-abbrev pub without_text : ℤ → List StoredText → List StoredText
-without_text id texts = filter (λ text. not (int_eq text.id id)) texts
 
 -- ---- a request with the texts that it names, where each is stored
 

@@ -25,7 +25,7 @@ use stream_task::stored_text;
 use ws_messages::{ClientMsg, MsgFail, WsRequest, decode_client, fitting_client_messages_are_read};
 
 /// Whether no token is required, or it is the one that was given.
-fn accepts(token: &Option<Txt>, given: &Option<Txt>) -> bool
+pub(crate) fn accepts(token: &Option<Txt>, given: &Option<Txt>) -> bool
     ensures { result ≡ accepts token.now given.now }
 {
     match token {

@@ -1,27 +1,27 @@
 // A connection.
-ghost use Rattle.std.specs.Prelude.{◌≡◌, ◌+◌, ◌<◌, ◌^◌, ◌-◌, ◌∷◌, ◌++◌, [], OnOk, OnErr, MatchOption, None, Some, min, nat_le, length};
+ghost use Rattle.std.specs.Prelude.{◌≡◌, ◌+◌, ◌<◌, ◌^◌, ◌-◌, ◌∷◌, ◌++◌, [], OnOk, OnErr, MatchOption, None, Some, nat_le, length};
 ghost use Rattle.stream_requests.specs.declared.replies.Reply.{Reply};
 ghost use Rattle.hrana_hub.specs.Maps.{id_at};
 ghost use Rattle.hrana_hub.specs.State.{Conn};
 ghost use Rattle.hrana_hub.specs.Step.{new_conn, has_room};
-ghost use Rattle.hrana_hub.specs.Arrivals.{greeted, shut, joined, waited, with_texts, is_full};
+ghost use Rattle.hrana_hub.specs.Arrivals.{greeted, shut, joined, waited, with_texts};
 ghost use Rattle.hrana_hub.specs.Polled.{replied};
-ghost use Rattle.hrana_hub.specs.Texts.{stored_bytes, without_text};
 ghost use Rattle.hrana_hub.specs.declared.limits.TheConstants.{MAX_STREAMS};
+ghost use Rattle.stream_task.specs.Texts.{is_full, without_text};
 
-use crate::limits::{MAX_OUTSTANDING, MAX_STORED_BYTES, MAX_STORED_TEXTS, MAX_STREAMS};
+use crate::limits::{MAX_OUTSTANDING, MAX_STREAMS};
 use hrana_value::{NoMemory, Txt};
 use std::alloc::Global;
 use std::collections::BTreeMap;
 use std::marker::Model;
-use stream_task::StoredText;
+use stream_task::{StoredText, StoredTexts};
 
 /// A connection: how far it came, its stored texts, and its streams.
 #[derive(Drop)]
 pub(crate) struct Connection {
     greeted: bool,
     closing: bool,
-    texts: Vec<StoredText>,
+    texts: StoredTexts,
     /// Its streams by their ids, until the close of each has arrived.
     ids: BTreeMap<i32, u64>,
     /// The numbers of its streams, in the order in which they were opened.
@@ -35,18 +35,7 @@ impl Model for Connection {
 
     ghost Value = { Conn };
 
-    ghost view = { λ k. record { greeted = k.greeted; closing = k.closing; texts = k.texts.items; ids = k.ids.entries; streams = k.streams.items; outstanding = k.outstanding } };
-}
-
-/// How many bytes the texts have together, as far as it can be counted.
-fn stored_bytes(texts: &[StoredText]) -> usize
-    ensures { result ≡ min (stored_bytes texts.now) (2 ^ 64 - 1) }
-{
-    let mut bytes: usize = 0;
-    for text in texts {
-        bytes = bytes.saturating_add(text.sql.as_str().len());
-    }
-    bytes
+    ghost view = { λ k. record { greeted = k.greeted; closing = k.closing; texts = k.texts; ids = k.ids.entries; streams = k.streams.items; outstanding = k.outstanding } };
 }
 
 impl Connection {
@@ -57,7 +46,7 @@ impl Connection {
         Connection {
             greeted: false,
             closing,
-            texts: Vec::new(alloc),
+            texts: StoredTexts::new(alloc),
             ids: BTreeMap::new(alloc),
             streams: Vec::new(alloc),
             outstanding: 0,
@@ -166,9 +155,7 @@ impl Connection {
     pub(crate) fn is_full_of_texts(&self, sql: &Txt) -> bool
         ensures { result ≡ is_full self.now.texts sql.now }
     {
-        let texts = self.texts.as_slice();
-        let bytes = stored_bytes(texts).saturating_add(sql.as_str().len());
-        MAX_STORED_TEXTS <= texts.len() || MAX_STORED_BYTES < bytes
+        self.texts.is_full(sql)
     }
 
     /// Stores a text. Where there is no memory nothing changes.
@@ -176,14 +163,13 @@ impl Connection {
         ensures ok { OnOk result (self.new ≡ with_texts (self.old.texts ++ record { id = id; sql = sql } ∷ []) self.old) }
         ensures err { OnErr result (self.new ≡ self.old) }
     {
-        self.texts.push(StoredText { id, sql })?;
-        Ok(())
+        self.texts.store(StoredText { id, sql })
     }
 
     /// Lets go of a stored text.
     pub(crate) fn forget_text(&mut self, id: i32)
         ensures { self.new ≡ with_texts (without_text id self.old.texts) self.old }
     {
-        self.texts.retain(|text| text.id != id);
+        self.texts.forget(id);
     }
 }

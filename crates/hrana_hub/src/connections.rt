@@ -9,7 +9,7 @@ ghost use Rattle.std.specs.Option.{option_copied_mut};
 ghost use Rattle.hrana_hub.specs.Polled.{replied};
 ghost use Rattle.hrana_hub.specs.State.{Conn};
 ghost use Rattle.hrana_hub.specs.Step.{new_conn};
-ghost use Rattle.hrana_hub.specs.Texts.{without_text};
+ghost use Rattle.stream_task.specs.Texts.{without_text};
 ghost use Rattle.hrana_hub.specs.declared.limits.TheConstants.{MAX_CONNECTIONS};
 
 use crate::connection::Connection;

@@ -9,6 +9,7 @@ mod connections;
 mod ends;
 mod events;
 mod exchange_arrivals;
+mod exchange_polls;
 mod exchanges;
 mod hub;
 mod laws;
@@ -31,6 +32,5 @@ pub use laws::{
     waiting_requests_are_counted,
 };
 pub use limits::{
-    EXPIRY_MS, MAX_CONNECTIONS, MAX_EVENTS, MAX_OUTSTANDING, MAX_STORED_BYTES, MAX_STORED_TEXTS,
-    MAX_SESSIONS, MAX_STREAMS, limits_are,
+    EXPIRY_MS, MAX_CONNECTIONS, MAX_EVENTS, MAX_OUTSTANDING, MAX_SESSIONS, MAX_STREAMS, limits_are,
 };

@@ -13,12 +13,6 @@ pub const MAX_SESSIONS: usize = 256;
 /// The most requests of a connection that wait for their reply.
 pub const MAX_OUTSTANDING: u32 = 32;
 
-/// The most texts that a connection stores.
-pub const MAX_STORED_TEXTS: usize = 32;
-
-/// The most bytes of the texts that a connection stores, together.
-pub const MAX_STORED_BYTES: usize = 262144;
-
 /// After how many milliseconds since its last answer a stream expires that holds a transaction and has nothing to do.
 pub const EXPIRY_MS: u64 = 10000;
 
@@ -31,8 +25,6 @@ pub fn limits_are()
     ensures max_streams { MAX_STREAMS ≡ 128 }
     ensures max_sessions { MAX_SESSIONS ≡ 256 }
     ensures max_outstanding { MAX_OUTSTANDING ≡ 32 }
-    ensures max_stored_texts { MAX_STORED_TEXTS ≡ 32 }
-    ensures max_stored_bytes { MAX_STORED_BYTES ≡ 262144 }
     ensures expiry { EXPIRY_MS ≡ 10000 }
     ensures max_events { MAX_EVENTS ≡ 2 ^ 62 - 1 }
 {}

@@ -5,10 +5,10 @@ ghost use Rattle.stream_task.specs.Together.{numbered};
 ghost use Rattle.hrana_hub.specs.Adds.{Adds};
 ghost use Rattle.hrana_hub.specs.Agrees.{HubAgrees};
 ghost use Rattle.hrana_hub.specs.Ended.{end_of, HasLeft};
-ghost use Rattle.hrana_hub.specs.Maps.{at, put, each};
-ghost use Rattle.hrana_hub.specs.Moments.{expired, after, first_due, expiries, Expire, MomentFrees};
+ghost use Rattle.hrana_hub.specs.Maps.{at, put, left_at, those_left};
+ghost use Rattle.hrana_hub.specs.Moments.{expired, left_of, after, first_due, expiries, Expire, MomentFrees};
 ghost use Rattle.hrana_hub.specs.Polled.{with_streams};
-ghost use Rattle.hrana_hub.specs.State.{Stream};
+ghost use Rattle.hrana_hub.specs.State.{Stream, of_exchanges};
 ghost use Rattle.hrana_hub.specs.Step.{MomentAt};
 
 use crate::hub::Hub;
@@ -31,8 +31,8 @@ impl Hub {
         None
     }
 
-    /// The stream of a connection expires. It holds no turn then, and waits for none.
-    fn expire<E: Engine>(&mut self, engine: &mut E, stream: u64)
+    /// The stream of a connection expires: it is dead. It holds no turn then, and waits for none.
+    fn deaden<E: Engine>(&mut self, engine: &mut E, stream: u64)
         requires { HubAgrees E.told E.SHARED (E.db engine.old) (E.live engine.old) self.old }
         ensures adds { Adds E.told E.SHARED E.meaning E.db E.live E.faults engine.old engine.new self.old self.new (λ added. added ≡ end_of Undo.Expired (at stream self.old.state.streams)) }
         ensures agrees { HubAgrees E.told E.SHARED (E.db engine.new) (E.live engine.new) self.new }
@@ -50,12 +50,39 @@ impl Hub {
         }
     }
 
+    fn is_session(&self, stream: u64) -> bool
+        ensures { (x : Stream) → at stream self.now.state.streams ≡ Some x → result ≡ of_exchanges x }
+    {
+        match self.slots.get(&stream) {
+            Some(slot) => slot.of_exchanges(),
+            None => false,
+        }
+    }
+
+    /// The stream expires: one of exchanges is gone, another is dead. It holds no turn then, and waits for none.
+    fn expire<E: Engine>(&mut self, engine: &mut E, stream: u64)
+        requires { HubAgrees E.told E.SHARED (E.db engine.old) (E.live engine.old) self.old }
+        ensures adds { Adds E.told E.SHARED E.meaning E.db E.live E.faults engine.old engine.new self.old self.new (λ added. added ≡ end_of Undo.Expired (at stream self.old.state.streams)) }
+        ensures agrees { HubAgrees E.told E.SHARED (E.db engine.new) (E.live engine.new) self.new }
+        ensures state { (x : Stream) → at stream self.old.state.streams ≡ Some x → self.new.state ≡ with_streams (left_at stream (left_of x) self.old.state.streams) self.old.state }
+        ensures table { IsSome (at stream self.old.state.streams) → HasLeft self.new.turns (numbered stream) }
+        ensures others { (n : ℕ) → has (numbered n) self.new.turns.waiters ≡ true → has (numbered n) self.old.turns.waiters ≡ true }
+        ensures token { self.new.token ≡ self.old.token }
+        ensures later { E.faults engine.old ≤ E.faults engine.new }
+    {
+        if self.is_session(stream) {
+            self.end_stream(engine, stream, Undo::Expired);
+        } else {
+            self.deaden(engine, stream);
+        }
+    }
+
     /// The streams that are due at the moment expire, in rising number.
     fn expire_due<E: Engine>(&mut self, engine: &mut E, moment: u64)
         requires { HubAgrees E.told E.SHARED (E.db engine.old) (E.live engine.old) self.old }
         ensures adds { Adds E.told E.SHARED E.meaning E.db E.live E.faults engine.old engine.new self.old self.new (λ added. added ≡ expiries moment self.old.state.streams) }
         ensures agrees { HubAgrees E.told E.SHARED (E.db engine.new) (E.live engine.new) self.new }
-        ensures state { self.new.state ≡ with_streams (each (after moment) self.old.state.streams) self.old.state }
+        ensures state { self.new.state ≡ with_streams (those_left (after moment) self.old.state.streams) self.old.state }
         ensures freed { Expire moment self.old self.new }
         ensures token { self.new.token ≡ self.old.token }
         ensures later { E.faults engine.old ≤ E.faults engine.new }

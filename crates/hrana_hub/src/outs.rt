@@ -3,10 +3,12 @@ ghost use Rattle.std.specs.Prelude.{◌≡◌, IfOk, Some, None};
 ghost use Rattle.hrana_stmt.specs.Codes.{error_of};
 ghost use Rattle.ws_messages.specs.Server.{HasServerForm, answering};
 ghost use Rattle.hrana_hub.specs.Arrivals.{nothing, text_of, tells, refusal};
+ghost use Rattle.hrana_hub.specs.Exchanges.{answers_with, empty_503};
 
 use hrana_stmt::{Code, wire_error};
 use hrana_value::NoMemory;
-use http_wire::{Out, Outs};
+use http_wire::{HttpAnswer, Out, Outs};
+use pipeline_body::empty_answer;
 use std::alloc::Global;
 use stream_requests::Reply;
 use ws_messages::{ServerMsg, encode_server};
@@ -19,6 +21,24 @@ pub(crate) fn nothing() -> Outs
         out: None,
         close: None,
     }
+}
+
+/// An answer to the exchange that came in on the connection.
+pub(crate) fn answers_with(conn: u32, answer: HttpAnswer) -> Outs
+    ensures { result ≡ answers_with conn answer }
+{
+    Outs {
+        conn,
+        out: Some(Out::Answer(answer)),
+        close: None,
+    }
+}
+
+/// There was no memory for an exchange. Takes none.
+pub(crate) fn without_memory(alloc: Global, conn: u32, close: bool) -> Outs
+    ensures { result ≡ empty_503 conn close }
+{
+    answers_with(conn, empty_answer(alloc, 503, None, close))
 }
 
 /// A message to the connection, which stays open.

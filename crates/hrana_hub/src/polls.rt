@@ -6,12 +6,13 @@ ghost use Rattle.hrana_hub.specs.Adds.{Adds};
 ghost use Rattle.hrana_hub.specs.Agrees.{HubAgrees, IsAhead};
 ghost use Rattle.hrana_hub.specs.Maps.{at, put};
 ghost use Rattle.hrana_hub.specs.State.{Conn, Stream, OnlyPlaces, with_state};
-ghost use Rattle.hrana_hub.specs.Polled.{first_id, dropped, is_closed, with_streams};
-ghost use Rattle.hrana_hub.specs.Settled.{PollsStream, Settles, PollEnds, after_fall, after_told, after_passed, passed};
+ghost use Rattle.hrana_hub.specs.Polled.{first_id, dropped, is_closed, passed, with_streams};
+ghost use Rattle.hrana_hub.specs.Settled.{PollsStream, Settles, PollEnds, after_fall, after_told, after_passed};
 ghost use Rattle.hrana_hub.specs.Step.{PollSteps, closes_short};
 
 use crate::hub::Hub;
 use crate::outs::{answers, nothing};
+use crate::slot::Asker;
 use engine_core::{Engine, Undo};
 use hrana_value::{NoMemory, StreamNo};
 use http_wire::Outs;
@@ -20,7 +21,7 @@ use stream_task::{Poll, Stepped, polls_keep_agreement, polls_lead_on, streams_ag
 
 impl Hub {
     /// Makes places for a poll's entry and for the ends of all units.
-    fn make_places(&mut self) -> Result<(), NoMemory>
+    pub(crate) fn make_places(&mut self) -> Result<(), NoMemory>
         ensures rest { OnlyPlaces self.old self.new }
         ensures places { OnOk result (length self.old.state.streams + 2 ≤ self.new.noted.spare) }
     {
@@ -31,7 +32,7 @@ impl Hub {
     }
 
     /// One poll of the stream. What it gave isn't told yet.
-    fn poll_stream<E: Engine>(&mut self, engine: &mut E, stream: u64) -> Poll<Stepped>
+    pub(crate) fn poll_stream<E: Engine>(&mut self, engine: &mut E, stream: u64) -> Poll<Stepped>
         requires agrees { HubAgrees E.told E.SHARED (E.db engine.old) (E.live engine.old) self.old }
         requires ahead { IsAhead self.old.state }
         requires room { length self.old.state.streams + 2 ≤ self.old.noted.spare }
@@ -203,6 +204,24 @@ impl Hub {
         self.poll_placed(engine, conn, stream)
     }
 
+    /// One poll of a stream of the connection that has something to do.
+    fn poll_of_connection<E: Engine>(&mut self, engine: &mut E, conn: u32, stream: u64) -> Outs
+        requires agrees { HubAgrees E.told E.SHARED (E.db engine.old) (E.live engine.old) self.old }
+        requires ahead { IsAhead self.old.state }
+        requires stream { IsSome (at stream self.old.state.streams) }
+        requires waits { (x : Stream) → at stream self.old.state.streams ≡ Some x → is_waiting x.task.asks ≡ true }
+        requires answers { (x : Stream) → at stream self.old.state.streams ≡ Some x → (x.session ≡ None) × (x.conn ≡ conn) }
+        ensures adds { Adds E.told E.SHARED E.meaning E.db E.live E.faults engine.old engine.new self.old self.new (λ added. PollSteps E.SHARED self.old.state stream added result self.new.state) }
+        ensures agrees { HubAgrees E.told E.SHARED (E.db engine.new) (E.live engine.new) self.new }
+        ensures token { self.new.token ≡ self.old.token }
+        ensures later { E.faults engine.old ≤ E.faults engine.new }
+    {
+        if !self.hears(conn) {
+            return nothing();
+        }
+        self.poll_ready(engine, conn, stream)
+    }
+
     /// One poll of the stream.
     pub(crate) fn poll<E: Engine>(&mut self, engine: &mut E, stream: StreamNo) -> Outs
         requires agrees { HubAgrees E.told E.SHARED (E.db engine.old) (E.live engine.old) self.old }
@@ -218,10 +237,10 @@ impl Hub {
         if !slot.is_waiting() {
             return nothing();
         }
-        let conn = slot.conn();
-        if !self.hears(conn) {
-            return nothing();
+        match slot.asker() {
+            Asker::Connection(conn) => self.poll_of_connection(engine, conn, stream.0),
+            Asker::Exchange { conn, close } => self.poll_session(engine, conn, close, stream.0),
+            Asker::Nobody => nothing(),
         }
-        self.poll_ready(engine, conn, stream.0)
     }
 }

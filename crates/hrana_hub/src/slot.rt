@@ -5,26 +5,27 @@ ghost use Rattle.stream_task.specs.Doing.{MayBeAsked};
 ghost use Rattle.stream_task.specs.Session.{is_shut, open_of};
 ghost use Rattle.stream_task.specs.Polls.{is_waiting};
 ghost use Rattle.stream_task.specs.Together.{MayPoll, HasPolled, HasEnded};
+ghost use Rattle.hrana_hub.specs.Agrees.{forgets};
 ghost use Rattle.hrana_hub.specs.Arrivals.{fresh, waiting};
 ghost use Rattle.hrana_hub.specs.Maps.{at, put, placed, without};
 ghost use Rattle.hrana_hub.specs.Moments.{is_begun, is_due, expired};
 ghost use Rattle.hrana_hub.specs.Askers.{asker_of, running_of, asks_these};
-ghost use Rattle.hrana_hub.specs.Exchanges.{fresh_session, in_session, with_reply};
+ghost use Rattle.hrana_hub.specs.Exchanges.{fresh_session, in_session};
+ghost use Rattle.hrana_hub.specs.ExchangeSettled.{given_up, rested};
 ghost use Rattle.hrana_hub.specs.Polled.{first_id, dropped, is_closed, passed, with_task};
 ghost use Rattle.hrana_hub.specs.State.{Stream, of_exchanges};
 ghost use Rattle.hrana_hub.specs.declared.sessions.Running.{Running};
 ghost use Rattle.hrana_hub.specs.declared.sessions.Session.{Session};
-ghost use Rattle.pipeline_body.specs.Exchanges.{is_over};
-ghost use Rattle.stream_requests.specs.Results.{IsPipelineReply};
 
 use crate::limits::EXPIRY_MS;
 use crate::sessions::{Issued, Running, Session};
+use baton_store::BatonStore;
 use engine_core::{Engine, Entries, Undo};
 use hrana_value::{NoMemory, StreamNo};
 use std::alloc::Global;
 use std::collections::{BTreeMap, VecDeque};
 use std::marker::Model;
-use stream_requests::{Ask, Reply};
+use stream_requests::Ask;
 use stream_task::{Poll, Queued, Stepped, StreamTask, Task, TxnState};
 use txn_table::TxnTable;
 
@@ -82,6 +83,15 @@ pub(crate) fn drop_slot(slots: &mut BTreeMap<u64, Slot>, number: u64)
     ensures { slots.new.entries ≡ without number slots.old.entries }
 {
     let _slot = slots.remove(&number);
+}
+
+/// The store lets go of the place and the baton of a stream, where it is one of exchanges.
+pub(crate) fn forget_session(store: &mut BatonStore, slot: &Slot, number: u64)
+    ensures { store.new ≡ forgets slot.now number store.old }
+{
+    if slot.of_exchanges() {
+        store.forget(StreamNo(number));
+    }
 }
 
 /// Asks a stream one thing more, where there is one of this number. Where there is no memory nothing changes.
@@ -205,6 +215,23 @@ impl Slot {
         self.session = Some(Session::Resting(baton));
     }
 
+    /// The requests that wait are dropped, and it rests without a baton from now on.
+    pub(crate) fn give_up(&mut self, now: u64)
+        ensures { self.new ≡ given_up now self.old }
+    {
+        self.drop_asks();
+        self.answered(now);
+        self.rest(None);
+    }
+
+    /// Its exchange is answered now, and it rests with this baton.
+    pub(crate) fn hand_out(&mut self, now: u64, text: [u8; 32])
+        ensures { self.new ≡ rested text now self.old }
+    {
+        self.answered(now);
+        self.rest(Some(Issued { text, at: now }));
+    }
+
     /// An exchange begins, by which it is asked this.
     pub(crate) fn run(&mut self, running: Running, queued: Queued)
         ensures { self.new ≡ in_session (Session.Running running) (asks_these queued self.old) }
@@ -231,21 +258,11 @@ impl Slot {
         }
     }
 
-    /// The exchange has one reply more. Answers whether each of its requests has its result. Where there is no memory the exchange is
-    /// of no use any more.
-    pub(crate) fn note(&mut self, alloc: Global, reply: Reply) -> Result<bool, NoMemory>
-        requires { IsPipelineReply reply }
-        ensures ok { OnOk result ((e : Running) → running_of self.old ≡ Some e → self.new ≡ in_session (Session.Running (with_reply reply e)) self.old) }
-        ensures over { IfOk result (λ over. (e : Running) → running_of self.old ≡ Some e → over ≡ is_over (with_reply reply e).exchange) }
-        ensures err { OnErr result ((session : Session) × (self.new ≡ in_session session self.old)) }
+    /// The exchange runs on.
+    pub(crate) fn run_on(&mut self, running: Running)
+        ensures { self.new ≡ in_session (Session.Running running) self.old }
     {
-        match &mut self.session {
-            Some(Session::Running(running)) => {
-                running.exchange.answered(alloc, reply)?;
-                Ok(running.exchange.is_over())
-            }
-            _ => Ok(false),
-        }
+        self.session = Some(Session::Running(running));
     }
 
     pub(crate) fn is_closed(&self) -> bool

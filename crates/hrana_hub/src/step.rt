@@ -46,7 +46,7 @@ impl Hub {
             Event::Opened { conn } => self.open(conn),
             Event::Text { conn, text } => self.text(conn, text.as_slice()),
             Event::Binary { conn } => self.binary(conn),
-            Event::Exchange { conn, ask } => self.exchange(tokens, conn, ask),
+            Event::Exchange { conn, ask } => self.exchange(tokens, conn, &ask),
             Event::Lost { conn } => self.lose(engine, conn),
             Event::Moment { at } => self.moment(engine, at),
             Event::Poll { stream } => self.poll(engine, stream),

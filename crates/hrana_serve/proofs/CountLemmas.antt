@@ -18,7 +18,8 @@ use Rattle.engine_core.specs.declared.entries.Entry.{Entry}
 use Rattle.hrana_hub.specs.declared.events.Event.{Event}
 use Rattle.hrana_hub.specs.declared.events.Event.TheVariants.{Opened, Text, Binary, Lost, Moment, Poll, Stop}
 use Rattle.hrana_hub.specs.declared.limits.TheConstants.{MAX_STREAMS}
-use Rattle.hrana_hub.specs.Arrivals.{Went, quiet, closing, accepts, on_hello, opens_unless, opens, asks, asks_at, queues, unopened, is_full, stores_unless, stores, on_request, on_numbered, on_answer, nothing}
+use Rattle.stream_task.specs.Texts.{is_full}
+use Rattle.hrana_hub.specs.Arrivals.{Went, quiet, closing, accepts, on_hello, opens_unless, opens, asks, asks_at, queues, unopened, stores_unless, stores, on_request, on_numbered, on_answer, nothing}
 use Rattle.hrana_hub.specs.Maps.{at, id_at}
 use Rattle.hrana_hub.specs.Moments.{expiries, at_moment}
 use Rattle.hrana_hub.specs.Run.{Run, start, more}

@@ -1,4 +1,4 @@
-// Sources, sinks and engines.
+// Sources, sinks, tokens, clocks and engines.
 ghost use Rattle.std.specs.Prelude.{IfOk, IsTrue};
 ghost use Rattle.engine_core.specs.Engine.{IsReadOrWrite};
 ghost use Rattle.engine_core.specs.Transactions.{NoneLive};
@@ -8,6 +8,7 @@ use hrana_stmt::Code;
 use hrana_value::{StreamNo, Txt, Value, Values};
 use sql_text::class_of;
 use std::alloc::Global;
+use std::process::Abort;
 use std::test::Fail;
 
 const INSERT: &str = "INSERT INTO t VALUES (?)";
@@ -61,6 +62,23 @@ fn insert_in_one(alloc: Global, engine: &mut Failing<PlainKeeper>) -> Result<usi
     engine.run(1, &insert)?;
     engine.commit(1)?;
     Ok(engine.alone(&select)?.rows.as_slice().len())
+}
+
+fn are_drawn<T: Tokens>(
+    rt: &impl Abort,
+    tokens: &mut T,
+    cases: &[(u64, Result<[u64; 2], Failed>)],
+) {
+    for (call, wanted) in cases {
+        let is_wanted = tokens.words() == *wanted;
+        assert!(rt; is_wanted, "at call {call}");
+    }
+}
+
+fn are_read<C: Clock>(rt: &impl Abort, clock: &mut C, readings: &[u64]) {
+    for wanted in readings {
+        assert_eq!(rt; clock.now(), *wanted);
+    }
 }
 
 #[test]
@@ -154,6 +172,39 @@ fn pieces_are_written_whole(rt: HostRuntime) -> Result<(), Fail> {
         Ok(())
     );
     assert_eq!(rt; written.as_slice(), b"ab".as_slice());
+    Ok(())
+}
+
+#[test]
+fn listed_draws_fail(rt: HostRuntime) -> Result<(), Fail> {
+    let mut tokens = CountTokens::new(rt.alloc(), &[2, 5])?;
+    let cases = [
+        (1, Ok([0, 0])),
+        (2, Err(Failed)),
+        (3, Ok([0, 0])),
+        (4, Ok([0, 0])),
+        (5, Err(Failed)),
+        (6, Ok([0, 0])),
+    ];
+    are_drawn(&rt, &mut tokens, &cases);
+    Ok(())
+}
+
+#[test]
+fn the_last_reading_is_repeated(rt: HostRuntime) -> Result<(), Fail> {
+    let mut clock = StepClock::new(rt.alloc(), &[3, 8, 5])?;
+    are_read(&rt, &mut clock, &[3, 8, 5, 5, 5]);
+    Ok(())
+}
+
+#[test]
+fn the_system_gives_words_and_readings(rt: HostRuntime) -> Result<(), Fail> {
+    let mut tokens = DeviceTokens::new(&rt);
+    let words = tokens.words()?;
+    assert_ne!(rt; tokens.words()?, words);
+    let mut clock = MillisecondClock::new(&rt);
+    let reading = clock.now();
+    assert!(rt; reading <= clock.now());
     Ok(())
 }
 

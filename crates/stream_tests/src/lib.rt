@@ -10,3 +10,5 @@ mod playing;
 mod replies;
 #[cfg(test)]
 mod streams;
+#[cfg(test)]
+mod texts;

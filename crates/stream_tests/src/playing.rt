@@ -27,6 +27,11 @@ pub(crate) enum Call {
     /// A sequence whose text is stored.
     StoredSequence(i32),
     Autocommit,
+    /// A text is to be stored.
+    StoreSql(i32, &'static str),
+    /// A text of so many blanks is to be stored.
+    StoreBlanks(i32, usize),
+    CloseSql(i32),
     Close,
     Poll,
     End(Undo),
@@ -105,6 +110,15 @@ fn batch(alloc: Global, text: &str) -> Result<Ask, NoMemory>
     }
 }
 
+/// A text of so many blanks.
+fn blanks(alloc: Global, count: usize) -> Result<Txt, NoMemory> {
+    let mut text = String::new(alloc);
+    for _ in 0..count {
+        text.push_str(" ")?;
+    }
+    Ok(Txt::from_string(text))
+}
+
 /// What a call asks.
 fn ask_of(alloc: Global, call: Call) -> Result<Option<Ask>, NoMemory>
     ensures { IfOk result (λ ask. IfSome ask MayBeAsked) }
@@ -117,6 +131,15 @@ fn ask_of(alloc: Global, call: Call) -> Result<Option<Ask>, NoMemory>
         Call::Sequence(text) => Ok(Some(Ask::Sequence(SqlRef::Text(Txt::new(alloc, text)?)))),
         Call::StoredSequence(id) => Ok(Some(Ask::Sequence(SqlRef::Id(id)))),
         Call::Autocommit => Ok(Some(Ask::GetAutocommit)),
+        Call::StoreSql(id, text) => {
+            let sql = Txt::new(alloc, text)?;
+            Ok(Some(Ask::StoreSql { id, sql }))
+        }
+        Call::StoreBlanks(id, count) => {
+            let sql = blanks(alloc, count)?;
+            Ok(Some(Ask::StoreSql { id, sql }))
+        }
+        Call::CloseSql(id) => Ok(Some(Ask::CloseSql(id))),
         Call::Close => Ok(Some(Ask::Close)),
         Call::Poll => Ok(None),
         Call::End(_) => Ok(None),
@@ -169,6 +192,8 @@ fn written(alloc: Global, reply: Reply) -> Result<Txt, NoMemory> {
         Reply::Execute(given) => success(alloc, Kind::Execute, Reply::Execute(given)),
         Reply::Batch(given) => success(alloc, Kind::Batch, Reply::Batch(given)),
         Reply::Sequence => success(alloc, Kind::Sequence, Reply::Sequence),
+        Reply::SqlStored => success(alloc, Kind::StoreSql, Reply::SqlStored),
+        Reply::SqlClosed => success(alloc, Kind::CloseSql, Reply::SqlClosed),
         Reply::Autocommit(auto) => success(alloc, Kind::GetAutocommit, Reply::Autocommit(auto)),
         _other => success(alloc, Kind::CloseStream, Reply::Closed),
     }
@@ -366,4 +391,24 @@ pub(crate) fn played(alloc: Global, fail_at: u64, calls: &[Call]) -> Result<Txt,
     let told = told_of(alloc, &mut desk, calls);
     let entries = desk.into_entries();
     with_words(told?, entries.as_slice())
+}
+
+/// What came of storing one more text of so many bytes in a stream that has some.
+pub(crate) fn told_after_texts(
+    alloc: Global,
+    count: i32,
+    bytes: usize,
+    last: usize,
+) -> Result<Txt, NoMemory> {
+    let mut desk = three(alloc, NO_CALL)?;
+    for id in 0..count {
+        act(alloc, &mut desk, 0, Call::StoreBlanks(id, bytes))?;
+    }
+    told(
+        alloc,
+        &mut desk,
+        Telling::Brief,
+        0,
+        Call::StoreBlanks(count, last),
+    )
 }

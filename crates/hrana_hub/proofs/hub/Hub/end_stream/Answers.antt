@@ -1,18 +1,22 @@
 use Rattle.std.proofs.Common.{◌≡◌, ◌∙◌, None, refl, sym, ap, subst}
+use Rattle.txn_table.specs.Turns.{has}
+use Rattle.stream_task.specs.Together.{numbered}
 use Rattle.hrana_hub.specs.Maps.{at}
 use Rattle.hrana_hub.specs.State.{Seen}
 use Rattle.hrana_hub.specs.Adds.{Adds}
-use Rattle.hrana_hub.specs.Agrees.{HubAgrees}
+use Rattle.baton_store.specs.Batons.{Batons}
+use Rattle.hrana_hub.specs.Agrees.{HubAgrees, IsTied, forgets}
 use Rattle.hrana_hub.specs.Ended.{end_of}
 use Rattle.hrana_hub.specs.contracts.hub.Hub.{the_view}
 use Rattle.hrana_hub.proofs.Adding.{alike, adds_none}
 use Rattle.hrana_hub.proofs.EntryLemmas.{without_unknown}
-use Rattle.hrana_hub.proofs.Ending.{EndDid, let_go_of, may_poll, end_room, end_adds, end_agrees, end_leaves}
+use Rattle.hrana_hub.proofs.Ending.{EndDid, forgets_issued, let_go_of, may_poll, end_room, end_adds, end_agrees, end_leaves, end_waits}
+use Rattle.hrana_hub.proofs.Tied.{tied_without}
 use Rattle.hrana_hub.proofs.hub.Hub.end_stream.Given as given
 use Rattle.hrana_hub.proofs.hub.Hub.end_stream.Goals as goal
 
 abbrev after : (g : given.Over) → goal.After-end g → Seen
-after g c = the_view (record { alloc = c.self.inside.alloc; token = c.self.inside.token; conns = c.self.inside.conns; slots = c.remove.new.self; opened = c.self.inside.opened; events = c.self.inside.events; moment = c.self.inside.moment; stopped = c.self.inside.stopped; turns = c.end.new.turns; entries = c.end.new.entries })
+after g c = the_view (record { alloc = c.self.inside.alloc; token = c.self.inside.token; conns = c.self.inside.conns; slots = c.remove.new.self; exchanges = c.self.inside.exchanges; issued = c.self.inside.issued; opened = c.self.inside.opened; events = c.self.inside.events; moment = c.self.inside.moment; stopped = c.self.inside.stopped; turns = c.end.new.turns; store = c.forget_session.new.store; entries = c.end.new.entries })
 
 did : (g : given.Over) (c : goal.After-end g) → EndDid g.E.Engine.told g.E.Engine.SHARED g.E.Engine.meaning g.E.Engine.db g.E.Engine.live g.E.Engine.faults c.args.engine.now c.end.new.engine c.args.why c.args.stream c.in-Some.slot None (the_view c.self.inside) (after g c)
 did g c =
@@ -33,6 +37,10 @@ did g c =
       next = refl;
       version = refl;
       events = refl;
+      issued = refl;
+      stopped = refl;
+      store_issued = ap (λ (b : Batons). b.issued) c.forget_session.ensures ∙ forgets_issued c.in-Some.slot c.args.stream c.self.inside.store;
+      ties = λ t. subst (IsTied c.remove.new.self.entries) (sym c.forget_session.ensures) (subst (λ es. IsTied es (forgets c.in-Some.slot c.args.stream c.self.inside.store)) (sym (c.remove.ensures.entries)) (tied_without c.args.stream c.in-Some.slot c.self.inside.slots.entries c.self.inside.store agrees.numbers.rising known t));
     }
 
 pub end-requires-clause-may : goal.end-requires-clause-may
@@ -52,10 +60,13 @@ returns-in-Some-clause-agrees g c = end_agrees g.E.Engine.told g.E.Engine.SHARED
 pub returns-in-Some-clause-table : goal.returns-in-Some-clause-table
 returns-in-Some-clause-table g c = λ some. end_leaves g.E.Engine.told g.E.Engine.SHARED g.E.Engine.meaning g.E.Engine.db g.E.Engine.live g.E.Engine.faults c.args.engine.now c.end.new.engine c.args.why c.args.stream c.in-Some.slot None (the_view c.self.inside) (after g c) (did g c) (returns-in-Some-clause-agrees g c)
 
+pub returns-in-Some-clause-others : goal.returns-in-Some-clause-others
+returns-in-Some-clause-others g c = λ n w. sym (ap (λ (h : Seen). has (numbered n) h.turns.waiters) c.self.view_is) ∙ (end_waits _ _ _ _ _ _ _ _ _ _ _ _ _ _ (did g c) n w).1
+
 pub returns-in_default-clause-adds : goal.returns-in_default-clause-adds
 returns-in_default-clause-adds g c =
     let old = the_view c.self.inside in
-    let left : Seen = the_view (record { alloc = c.self.inside.alloc; token = c.self.inside.token; conns = c.self.inside.conns; slots = c.remove.new.self; opened = c.self.inside.opened; events = c.self.inside.events; moment = c.self.inside.moment; stopped = c.self.inside.stopped; turns = c.self.inside.turns; entries = c.self.inside.entries }) in
+    let left : Seen = the_view (record { alloc = c.self.inside.alloc; token = c.self.inside.token; conns = c.self.inside.conns; slots = c.remove.new.self; exchanges = c.self.inside.exchanges; issued = c.self.inside.issued; opened = c.self.inside.opened; events = c.self.inside.events; moment = c.self.inside.moment; stopped = c.self.inside.stopped; turns = c.self.inside.turns; store = c.self.inside.store; entries = c.self.inside.entries }) in
     let unknown : at c.args.stream old.state.streams ≡ None = sym c.in_default.ensures.value in
     let same = c.remove.ensures.entries ∙ without_unknown c.args.stream old.state.streams unknown in
     subst (λ h. Adds g.E.Engine.told g.E.Engine.SHARED g.E.Engine.meaning g.E.Engine.db g.E.Engine.live g.E.Engine.faults c.args.engine.now c.args.engine.now h left (λ added. added ≡ end_of c.args.why (at c.args.stream h.state.streams))) c.self.view_is

@@ -1,10 +1,10 @@
 use Rattle.std.proofs.Common.{◌≡◌, ◌≤◌, ◌++◌, ◌+◌, ◌<◌, ◌∙◌, refl, sym, ap, subst, arith, append-nil}
-use Rattle.hrana_hub.specs.Maps.{put, each}
-use Rattle.hrana_hub.specs.Moments.{expired, after, expiries}
+use Rattle.hrana_hub.specs.Maps.{left_at, those_left}
+use Rattle.hrana_hub.specs.Moments.{left_of, after, expiries}
 use Rattle.hrana_hub.specs.State.{State}
 use Rattle.hrana_hub.specs.Polled.{with_streams}
 use Rattle.hrana_hub.proofs.Adding.{alike, adds_none, adds_on, adds_as}
-use Rattle.hrana_hub.proofs.Expiring.{NoneBelow, due_count, found, found_known, count_found, below_found, expiries_on, each_on, all_quiet, quiet_expiries, quiet_each, none_below_first, silent_first, silent_on, expire_frees}
+use Rattle.hrana_hub.proofs.Expiring.{NoneBelow, due_count, found, found_known, Left, left_as, count_found, below_found, expiries_on, those_on, all_quiet, quiet_expiries, quiet_left, none_below_first, silent_first, silent_on, expire_frees}
 use Rattle.hrana_hub.proofs.Polling.{is_known}
 use Rattle.hrana_hub.proofs.hub.Hub.expire_due.Goals as goal
 
@@ -30,15 +30,17 @@ loop-stream-preserved g c =
     let f = found moment c.loop-stream.from n es i.agrees.numbers.rising i.below (sym c.in-Some.ensures) in
     let x = found_known moment n f in
     let state = c.expire.ensures.state x.0 x.1 in
-    let rest : c.expire.new.self.state.streams ≡ put n (expired x.0) es = ap (λ (s : State). s.streams) state in
+    let o = left_of x.0 in
+    let left : Left moment n x.0 o = left_as moment n x.0 in
+    let rest : c.expire.new.self.state.streams ≡ left_at n o es = ap (λ (s : State). s.streams) state in
     record {
       adds = adds_on _ _ _ c.args.self.now c.loop-stream.self c.expire.new.self _ _ (λ added. expiries moment all ≡ added ++ expiries moment c.expire.new.self.state.streams)
           i.later c.expire.ensures.later i.adds c.expire.ensures.adds
-          (λ done one e ends. expiries_on moment n x.0 _ done one es f x.1 e ends ∙ ap (λ l. (done ++ one) ++ expiries moment l) (sym rest));
-      left = each_on moment n x.0 _ es f x.1 i.left ∙ ap (each (after moment)) (sym rest);
-      below = subst (NoneBelow moment n) (sym rest) (below_found moment n x.0 f);
-      silent = silent_on moment n x.0 c.args.self.now c.loop-stream.self c.expire.new.self x.1 rest (c.expire.ensures.table (is_known _ _ x.1)).waits c.expire.ensures.others i.silent;
-      state = state ∙ ap (with_streams (put n (expired x.0) es)) i.state ∙ ap (λ l. with_streams l c.args.self.now.state) (sym rest);
+          (λ done one e ends. expiries_on moment n x.0 o left _ done one es f x.1 e ends ∙ ap (λ l. (done ++ one) ++ expiries moment l) (sym rest));
+      left = those_on moment n x.0 o left _ es refl f x.1 i.left ∙ ap (those_left (after moment)) (sym rest);
+      below = subst (NoneBelow moment n) (sym rest) (below_found moment n x.0 o left f);
+      silent = silent_on moment n x.0 o c.args.self.now c.loop-stream.self c.expire.new.self i.agrees.numbers.rising x.1 rest (c.expire.ensures.table (is_known _ _ x.1)).waits c.expire.ensures.others i.silent;
+      state = state ∙ ap (with_streams (left_at n o es)) i.state ∙ ap (λ l. with_streams l c.args.self.now.state) (sym rest);
       agrees = c.expire.ensures.agrees;
       token = c.expire.ensures.token ∙ i.token;
       later = omega (arith, i.later, c.expire.ensures.later);
@@ -52,7 +54,7 @@ loop-stream-smaller g c =
     let f = found moment c.loop-stream.from n c.loop-stream.self.state.streams i.agrees.numbers.rising i.below (sym c.in-Some.ensures) in
     let x = found_known moment n f in
     let rest = ap (λ (s : State). due_count moment s.streams) (c.expire.ensures.state x.0 x.1) in
-    omega (arith, rest, count_found moment n x.0 f)
+    omega (arith, rest, count_found moment n x.0 (left_of x.0) (left_as moment n x.0) f)
 
 pub returns-clause-adds : goal.returns-clause-adds
 returns-clause-adds g c =
@@ -66,10 +68,10 @@ pub returns-clause-state : goal.returns-clause-state
 returns-clause-state g c =
     let i = c.loop-stream.invariant in
     let quiet = all_quiet c.args.moment c.loop-stream.from c.loop-stream.self.state.streams i.below (sym c.in_default.ensures) in
-    i.state ∙ ap (λ l. with_streams l c.args.self.now.state) (sym (i.left ∙ quiet_each c.args.moment c.loop-stream.self.state.streams quiet))
+    i.state ∙ ap (λ l. with_streams l c.args.self.now.state) (sym (i.left ∙ quiet_left c.args.moment c.loop-stream.self.state.streams quiet))
 
 pub returns-clause-freed : goal.returns-clause-freed
 returns-clause-freed g c =
     let i = c.loop-stream.invariant in
     let quiet = all_quiet c.args.moment c.loop-stream.from c.loop-stream.self.state.streams i.below (sym c.in_default.ensures) in
-    expire_frees _ _ _ _ c.args.moment c.args.self.now c.loop-stream.self i.agrees quiet (sym (i.left ∙ quiet_each c.args.moment c.loop-stream.self.state.streams quiet)) i.silent
+    expire_frees _ _ _ _ c.args.moment c.args.self.now c.loop-stream.self c.requires.numbers.rising i.agrees quiet (sym (i.left ∙ quiet_left c.args.moment c.loop-stream.self.state.streams quiet)) i.silent

@@ -5,7 +5,8 @@ use Rattle.ws_messages.specs.Server.{answering}
 use Rattle.hrana_hub.specs.Arrivals.{tells, with_texts}
 use Rattle.hrana_hub.specs.Maps.{at, put}
 use Rattle.hrana_hub.specs.State.{Seen}
-use Rattle.hrana_hub.specs.Texts.{without_text}
+use Rattle.stream_task.specs.Texts.{without_text}
+use Rattle.hrana_hub.specs.contracts.hub.Hub.{the_view}
 use Rattle.hrana_hub.proofs.ArrivalLemmas.{conn_after}
 use Rattle.hrana_hub.proofs.hub.Hub.forget_text.Goals as goal
 
@@ -16,5 +17,5 @@ returns c = λ k known.
     let there = ap (λ (s : Seen). at c.args.conn s.state.conns) c.self.view_is ∙ known in
     let left = c.forget_text.ensures k there ∙ ap (λ id. put c.args.conn (with_texts (without_text id k.texts) k) h.conns) (to_z-of_z w32 c.args.id c.ranges.id) in (
       given,
-      conn_after c.args.conn (with_texts (without_text c.args.id k.texts) k) h.token h.conns c.forget_text.new.self h.slots.entries h.opened h.events h.moment h.stopped h.turns h.entries c.args.self.now c.self.view_is left,
+      conn_after c.args.conn (with_texts (without_text c.args.id k.texts) k) c.forget_text.new.self (the_view h) c.args.self.now c.self.view_is left,
     )

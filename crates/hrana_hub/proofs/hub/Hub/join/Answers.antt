@@ -1,6 +1,7 @@
-use Rattle.std.proofs.Common.{◌≡◌, ◌+◌, ◌∙◌, sym, ap}
+use Rattle.std.proofs.Common.{◌≡◌, ◌+◌, ◌∙◌, refl, sym, ap}
 use Rattle.hrana_hub.specs.Maps.{Numbered, at, without}
 use Rattle.hrana_hub.specs.State.{Stream, Seen}
+use Rattle.hrana_hub.specs.contracts.hub.Hub.{the_view}
 use Rattle.hrana_hub.proofs.ArrivalLemmas.{only_place, on_err_at}
 use Rattle.hrana_hub.proofs.MapLemmas.{without_placed}
 use Rattle.hrana_hub.proofs.hub.Hub.join.Goals as goal
@@ -13,4 +14,4 @@ returns-then-is_err-clause-err c =
     let free = ap (λ (s : Seen). at (s.state.opened + 1) s.state.streams) c.self.view_is ∙ c.requires.fresh in
     let streams : c.drop_slot.new.slots.entries ≡ h.slots.entries =
     c.drop_slot.ensures ∙ (ap (λ (es : Numbered Stream). without n es) c.in_ok-add_slot.ensures.ok ∙ without_placed n c.in_ok-slot.slot h.slots.entries free) in
-    only_place h.token h.conns c.join.new.self h.slots.entries c.drop_slot.new.slots.entries h.opened h.events h.moment h.stopped h.turns c.reserve_stream.new.self h.entries c.args.self.now c.self.view_is conns streams c.in_ok-reserve_stream.ensures.ok
+    only_place c.join.new.self c.drop_slot.new.slots.entries c.reserve_stream.new.self (the_view h) c.args.self.now c.self.view_is refl conns streams c.in_ok-reserve_stream.ensures.ok

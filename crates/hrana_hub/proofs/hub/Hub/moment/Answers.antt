@@ -14,7 +14,7 @@ returns-then-moment-self-clause-adds g c =
     adds_none _ c.args.self.now c.args.self.now _ refl (alike c.args.self.now c.args.self.now refl refl refl) (moment_rests c.args.self.now.state c.args.moment c.nothing.result early c.nothing.ensures)
 
 abbrev left : (g : given.Over) → goal.After-nothing-2 g → Seen
-left g c = the_view (record { alloc = c.self-2.inside.alloc; token = c.self-2.inside.token; conns = c.self-2.inside.conns; slots = c.self-2.inside.slots; opened = c.self-2.inside.opened; events = c.self-2.inside.events; moment = c.args.moment; stopped = c.self-2.inside.stopped; turns = c.self-2.inside.turns; entries = c.self-2.inside.entries })
+left g c = the_view (record { alloc = c.self-2.inside.alloc; token = c.self-2.inside.token; conns = c.self-2.inside.conns; slots = c.self-2.inside.slots; exchanges = c.self-2.inside.exchanges; issued = c.self-2.inside.issued; opened = c.self-2.inside.opened; events = c.self-2.inside.events; moment = c.args.moment; stopped = c.self-2.inside.stopped; turns = c.self-2.inside.turns; store = c.self-2.inside.store; entries = c.self-2.inside.entries })
 
 pub returns-clause-adds : goal.returns-clause-adds
 returns-clause-adds g c =
@@ -24,7 +24,7 @@ returns-clause-adds g c =
     adds_until _ _ old c.expire_due.new.self (left g c) _ _ (ap (λ (h : Seen). h.noted.list) c.self-2.view_is)
     (alike c.expire_due.new.self (left g c) (ap (λ (h : Seen). h.state.streams) c.self-2.view_is) (ap (λ (h : Seen). h.turns) c.self-2.view_is) (ap (λ (h : Seen). h.noted.next) c.self-2.view_is))
     (λ added ends. moment_comes old.state c.args.moment added _ (left g c).state comes ends c.nothing-2.ensures
-    (ap (λ (s : State). record { conns = s.conns; streams = s.streams; opened = s.opened; next = s.next; version = s.version; events = s.events; now = c.args.moment; stopped = s.stopped }) state)) c.expire_due.ensures.adds
+    (ap (λ (s : State). record s { now = c.args.moment }) state)) c.expire_due.ensures.adds
 
 pub returns-clause-freed : goal.returns-clause-freed
 returns-clause-freed g c = λ comes n x known due.

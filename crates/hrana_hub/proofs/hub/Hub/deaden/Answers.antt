@@ -3,7 +3,7 @@ use Rattle.txn_table.specs.Turns.{has}
 use Rattle.stream_task.specs.Together.{numbered}
 use Rattle.hrana_hub.specs.Maps.{at, put}
 use Rattle.hrana_hub.specs.Adds.{Adds}
-use Rattle.hrana_hub.specs.Agrees.{HubAgrees}
+use Rattle.hrana_hub.specs.Agrees.{HubAgrees, IsTied}
 use Rattle.hrana_hub.specs.Ended.{end_of}
 use Rattle.hrana_hub.specs.Moments.{expired}
 use Rattle.hrana_hub.specs.Polled.{with_streams}
@@ -15,11 +15,12 @@ use Rattle.hrana_hub.proofs.Agreeing.{state_is}
 use Rattle.hrana_hub.proofs.Ending.{EndDid, may_poll, end_room, end_adds, end_agrees, end_leaves, end_waits, same_next, same_version}
 use Rattle.hrana_hub.proofs.Expiring.{dead_of}
 use Rattle.hrana_hub.proofs.MapLemmas.{some_one}
-use Rattle.hrana_hub.proofs.hub.Hub.expire.Given as given
-use Rattle.hrana_hub.proofs.hub.Hub.expire.Goals as goal
+use Rattle.hrana_hub.proofs.Tied.{tied_put}
+use Rattle.hrana_hub.proofs.hub.Hub.deaden.Given as given
+use Rattle.hrana_hub.proofs.hub.Hub.deaden.Goals as goal
 
 abbrev after : (g : given.Over) → goal.After-self-in-Some-1 g → Seen
-after g c = the_view (record { alloc = c.self.inside.alloc; token = c.self.inside.token; conns = c.self.inside.conns; slots = c.get_mut.follows.lender c.expire.new.self; opened = c.self.inside.opened; events = c.self.inside.events; moment = c.self.inside.moment; stopped = c.self.inside.stopped; turns = c.expire.new.turns; entries = c.expire.new.entries })
+after g c = the_view (record { alloc = c.self.inside.alloc; token = c.self.inside.token; conns = c.self.inside.conns; slots = c.get_mut.follows.lender c.expire.new.self; exchanges = c.self.inside.exchanges; issued = c.self.inside.issued; opened = c.self.inside.opened; events = c.self.inside.events; moment = c.self.inside.moment; stopped = c.self.inside.stopped; turns = c.expire.new.turns; store = c.self.inside.store; entries = c.expire.new.entries })
 
 did : (g : given.Over) (c : goal.After-self-in-Some-1 g) → EndDid g.E.Engine.told g.E.Engine.SHARED g.E.Engine.meaning g.E.Engine.db g.E.Engine.live g.E.Engine.faults c.args.engine.now c.expire.new.engine Expired c.args.stream c.in-Some.slot.now (Some (expired c.in-Some.slot.now).task.session.state) (the_view c.self.inside) (after g c)
 did g c =
@@ -41,6 +42,10 @@ did g c =
       next = refl;
       version = refl;
       events = refl;
+      issued = refl;
+      stopped = refl;
+      store_issued = refl;
+      ties = λ t. subst (λ es. IsTied es c.self.inside.store) (sym streams) (tied_put c.args.stream c.in-Some.slot.now (expired c.in-Some.slot.now) c.self.inside.slots.entries c.self.inside.store known refl t);
     }
 
 pub expire-requires-clause-may : goal.expire-requires-clause-may
@@ -69,12 +74,12 @@ returns-in-Some-clause-state g c = λ x known.
     let same : c.in-Some.slot.now ≡ x = some_one (c.in-Some.ensures.value ∙ (ap (λ (h : Seen). at c.args.stream h.state.streams) c.self.view_is ∙ known)) in
     let streams = (c.get_mut.follows.holds c.expire.new.self).0 ∙ ap (λ y. put c.args.stream y c.self.inside.slots.entries) (c.expire.ensures.slot ∙ ap expired same) in
     subst (λ (h : Seen). (after g c).state ≡ with_streams (put c.args.stream (expired x) h.state.streams) h.state) c.self.view_is
-    (state_is (after g c).state (with_streams (put c.args.stream (expired x) old.state.streams) old.state) refl streams refl (same_next _ _ _ _ _ _ _ _ _ _ _ _ _ _ (did g c)) (same_version _ _ _ _ _ _ _ _ _ _ _ _ _ _ (did g c)) refl refl refl)
+    (state_is (after g c).state (with_streams (put c.args.stream (expired x) old.state.streams) old.state) refl streams refl refl refl (same_next _ _ _ _ _ _ _ _ _ _ _ _ _ _ (did g c)) (same_version _ _ _ _ _ _ _ _ _ _ _ _ _ _ (did g c)) refl refl refl)
 
 pub returns-in_default-clause-adds : goal.returns-in_default-clause-adds
 returns-in_default-clause-adds g c =
     let old = the_view c.self.inside in
-    let left : Seen = the_view (record { alloc = c.self.inside.alloc; token = c.self.inside.token; conns = c.self.inside.conns; slots = c.get_mut.follows.lender-at-none; opened = c.self.inside.opened; events = c.self.inside.events; moment = c.self.inside.moment; stopped = c.self.inside.stopped; turns = c.self.inside.turns; entries = c.self.inside.entries }) in
+    let left : Seen = the_view (record { alloc = c.self.inside.alloc; token = c.self.inside.token; conns = c.self.inside.conns; slots = c.get_mut.follows.lender-at-none; exchanges = c.self.inside.exchanges; issued = c.self.inside.issued; opened = c.self.inside.opened; events = c.self.inside.events; moment = c.self.inside.moment; stopped = c.self.inside.stopped; turns = c.self.inside.turns; store = c.self.inside.store; entries = c.self.inside.entries }) in
     let same : left.state.streams ≡ old.state.streams = search rules in
     subst (λ h. Adds g.E.Engine.told g.E.Engine.SHARED g.E.Engine.meaning g.E.Engine.db g.E.Engine.live g.E.Engine.faults c.args.engine.now c.args.engine.now h left (λ added. added ≡ end_of Expired (at c.args.stream h.state.streams))) c.self.view_is
     (adds_none c.args.engine.now old left _ refl (alike old left same refl refl) (sym (ap (end_of Expired) (sym c.in_default.ensures.value))))
