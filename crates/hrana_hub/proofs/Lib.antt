@@ -31,3 +31,4 @@ pub mod Versions
 pub mod IdLists
 pub mod Counted
 pub mod Tied
+pub mod ExchangePolling

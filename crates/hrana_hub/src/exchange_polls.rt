@@ -29,7 +29,7 @@ use hrana_value::{NoMemory, StreamNo};
 use http_wire::{HttpAnswer, Outs};
 use pipeline_body::BlankAnswer;
 use stream_requests::Reply;
-use stream_task::{Poll, Stepped, streams_agree};
+use stream_task::{Poll, Stepped, polls_reply_to_pipelines, streams_agree};
 
 impl Hub {
     /// The stream rests without a baton, and its requests are dropped.
@@ -149,6 +149,7 @@ impl Hub {
     ) -> Result<Outs, NoMemory>
         requires agrees { HubAgrees E.told E.SHARED (E.db engine.old) (E.live engine.old) self.old }
         requires ahead { IsAhead self.old.state }
+        requires running { self.old.state.stopped ≡ false }
         requires rests { (x : Stream) → at stream self.old.state.streams ≡ Some x → x.session ≡ Some (Session.Resting None) }
         requires stream { IsSome (at stream self.old.state.streams) }
         ensures adds { Adds E.told E.SHARED E.meaning E.db E.live E.faults engine.old engine.new self.old self.new
@@ -182,6 +183,7 @@ impl Hub {
     ) -> Outs
         requires agrees { HubAgrees E.told E.SHARED (E.db engine.old) (E.live engine.old) self.old }
         requires ahead { IsAhead self.old.state }
+        requires running { self.old.state.stopped ≡ false }
         requires kind { IsPipelineReply reply }
         requires rests { (x : Stream) → at stream self.old.state.streams ≡ Some x → x.session ≡ Some (Session.Resting None) }
         requires stream { IsSome (at stream self.old.state.streams) }
@@ -210,6 +212,7 @@ impl Hub {
     fn note_reply<E: Engine>(&mut self, engine: &mut E, stream: u64, reply: Reply) -> Outs
         requires agrees { HubAgrees E.told E.SHARED (E.db engine.old) (E.live engine.old) self.old }
         requires ahead { IsAhead self.old.state }
+        requires running { self.old.state.stopped ≡ false }
         requires kind { IsPipelineReply reply }
         requires runs { (x : Stream) → at stream self.old.state.streams ≡ Some x → IsSome (running_of x) }
         requires stream { IsSome (at stream self.old.state.streams) }
@@ -236,6 +239,7 @@ impl Hub {
     ) -> Outs
         requires agrees { HubAgrees E.told E.SHARED (E.db engine.old) (E.live engine.old) self.old }
         requires ahead { IsAhead self.old.state }
+        requires running { self.old.state.stopped ≡ false }
         requires kind { HasPipelineReply polled }
         requires runs { (x : Stream) → at stream self.old.state.streams ≡ Some x → IsRunningFor conn close x }
         requires stream { IsSome (at stream self.old.state.streams) }
@@ -264,6 +268,7 @@ impl Hub {
     ) -> Outs
         requires agrees { HubAgrees E.told E.SHARED (E.db engine.old) (E.live engine.old) self.old }
         requires ahead { IsAhead self.old.state }
+        requires running { self.old.state.stopped ≡ false }
         requires room { length self.old.state.streams + 2 ≤ self.old.noted.spare }
         requires runs { (x : Stream) → at stream self.old.state.streams ≡ Some x → IsRunningFor conn close x }
         requires stream { IsSome (at stream self.old.state.streams) }
@@ -273,7 +278,7 @@ impl Hub {
         ensures token { self.new.token ≡ self.old.token }
         ensures later { E.faults engine.old ≤ E.faults engine.new }
     {
-
+        polls_reply_to_pipelines();
         let polled = self.poll_stream(engine, stream);
         self.settle_exchange(engine, conn, close, stream, polled)
     }
@@ -288,6 +293,7 @@ impl Hub {
     ) -> Outs
         requires agrees { HubAgrees E.told E.SHARED (E.db engine.old) (E.live engine.old) self.old }
         requires ahead { IsAhead self.old.state }
+        requires running { self.old.state.stopped ≡ false }
         requires waits { (x : Stream) → at stream self.old.state.streams ≡ Some x → is_waiting x.task.asks ≡ true }
         requires runs { (x : Stream) → at stream self.old.state.streams ≡ Some x → IsRunningFor conn close x }
         requires stream { IsSome (at stream self.old.state.streams) }
