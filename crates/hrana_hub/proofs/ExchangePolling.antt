@@ -19,23 +19,26 @@ use Rattle.engine_core.specs.declared.entries.Answer.{Answer}
 use Rattle.engine_core.specs.declared.entries.Entry.{Entry}
 use Rattle.engine_core.specs.declared.entries.Undo.{Undo}
 use Rattle.stream_task.specs.Adds.{undone_of}
-use Rattle.stream_task.specs.Polls.{Task}
+use Rattle.stream_task.specs.Laws.{PollsReplyToPipelines}
+use Rattle.stream_task.specs.Polls.{Task, Polls, is_waiting, with_asks}
 use Rattle.stream_task.specs.declared.session.TxnState.{TxnState}
 use Rattle.stream_task.specs.declared.session.TxnState.TheVariants.{Auto, Deferred, Reading, Writing, Dead, Closed}
 use Rattle.stream_task.specs.Session.{is_shut}
-use Rattle.stream_task.specs.Together.{numbered}
+use Rattle.stream_task.specs.Together.{TurnIsWriters, numbered}
 use Rattle.stream_task.specs.declared.task.Poll.{Poll}
-use Rattle.stream_task.specs.declared.task.Poll.TheVariants.{Ready}
+use Rattle.stream_task.specs.declared.task.Poll.TheVariants.{Ready, Pending}
 use Rattle.stream_task.specs.declared.task.Stepped.{Stepped}
 use Rattle.stream_task.specs.declared.task.Stepped.TheVariants as stepped
 use Rattle.hrana_hub.specs.Adds.{Adds}
 use Rattle.hrana_hub.specs.Agrees.{HubAgrees, IsAhead, IsTied, rests_for}
 use Rattle.hrana_hub.specs.Arrivals.{nothing}
-use Rattle.hrana_hub.specs.Askers.{running_of, exchange_in}
+use Rattle.hrana_hub.specs.Askers.{running_of, exchange_in, asker_of, asker_in}
+use Rattle.hrana_hub.specs.declared.slot.Asker.TheVariants as asker
+use Rattle.hrana_hub.specs.declared.sessions.Issued.{Issued}
 use Rattle.hrana_hub.specs.Exchanges.{SessionPolled, SessionFell, answers_with, empty_503, gives_up, in_session, replies_to, proceeds, proceeds_if, concludes, with_reply, without_exchange, issues, next_baton, leaves}
-use Rattle.hrana_hub.specs.ExchangeSettled.{IsRunning, HandsOut, Concludes, Settles, Ends, GivesUp, Tells, given_up, rested}
+use Rattle.hrana_hub.specs.ExchangeSettled.{MayIssue, IsRunning, IsRunningFor, HandsOut, HasPipelineReply, Concludes, Settles, Ends, GivesUp, Tells, given_up, rested}
 use Rattle.hrana_hub.specs.Maps.{Numbered, at, put, without}
-use Rattle.hrana_hub.specs.Polled.{with_entry, with_streams, with_task, passed, dropped, reply_in, FellShort}
+use Rattle.hrana_hub.specs.Polled.{with_entry, with_streams, with_task, passed, dropped, reply_in, seen_of, FellShort}
 use Rattle.hrana_hub.specs.Settled.{PollsStream}
 use Rattle.hrana_hub.specs.State.{Stream, State, Seen, states_of, with_state, of_exchanges}
 use Rattle.hrana_hub.specs.Step.{is_short}
@@ -46,7 +49,7 @@ use Rattle.hrana_hub.proofs.Adding.{Alike, adds_none}
 use Rattle.hrana_hub.proofs.Agreeing.{Moves, StoreAgrees, moves_agrees, same_states}
 use Rattle.hrana_hub.proofs.EntryLemmas.{at_put, put_put, put_same, without_put}
 use Rattle.hrana_hub.proofs.MapLemmas.{none_some, some_one}
-use Rattle.hrana_hub.proofs.Polling.{some_of}
+use Rattle.hrana_hub.proofs.Polling.{some_of, known_left, early}
 use Rattle.hrana_hub.proofs.Tied.{tied_rests, tied_issues, tied_has_place, tied_has_none, rests_awaits_none, runs_awaits_none}
 
 -- ---- batons are written in JSON as they stand
@@ -103,8 +106,8 @@ module _ {D : Type 0} (told shared : Bool) (db : D) (live : Lives D) where
       put_session n x y exchanges h a known stream state (tied_rests n x y h.state.streams h.store known (rests_awaits_none x.session rest) (rests_awaits_none y.session again) (ap is_some rest))
 
   -- a baton was issued to it
-  pub hands_agree : (n c : ℕ) (drawn : List ℕ) (x : Stream) (old new : Seen) → HubAgrees told shared db live old → IsAhead old.state → at n old.state.streams ≡ Some x → x.session ≡ Some (Resting None) → HandsOut old n c drawn x new → HubAgrees told shared db live new
-  hands_agree n c drawn x old new a ahead known rest h =
+  pub hands_agree : (n c : ℕ) (drawn : List ℕ) (x : Stream) (old new : Seen) → HubAgrees told shared db live old → MayIssue old.state → at n old.state.streams ≡ Some x → x.session ≡ Some (Resting None) → HandsOut old n c drawn x new → HubAgrees told shared db live new
+  hands_agree n c drawn x old new a may known rest h =
       let y = rested (next_baton drawn old.state) old.state.now x in
       let state : new.state ≡ issues (without_exchange c (with_streams (put n y old.state.streams) old.state)) = h.state in
       let streams : new.state.streams ≡ put n y old.state.streams = ap (λ (s : State). s.streams) state in
@@ -113,7 +116,7 @@ module _ {D : Type 0} (told shared : Bool) (db : D) (live : Lives D) where
       moves_agrees told shared db live old new n x y a known refl refl
       (record { streams_are = streams; opened = ap (λ (s : State). s.opened) state; next = ap (λ (s : State). s.next) state; version = ap (λ (s : State). s.version) state; events = omega (arith, events); turns = h.turns; noted = ap (λ (m : Noted). m.next) h.noted; places = (let spare = ap (λ (m : Noted). m.spare) h.noted in omega (arith, spare)) })
       (record {
-        few = omega (arith, issued, events, ahead.batons);
+        few = omega (arith, issued, events, may.batons);
         issued = ap (λ (b : Batons). b.issued) h.store ∙ ap (λ k. k + 1) a.issued ∙ sym issued;
         tied = λ runs.
             let tied = a.tied (sym (ap (λ (s : State). s.stopped) state) ∙ runs) in
@@ -310,7 +313,7 @@ module _ {D : Type 0} (told shared : Bool) (db : D) (live : Lives D) (old new : 
 
 module _ {X D : Type 0} {told shared : Bool} {m : Meaning D BoundStmt Answer} {db : X → D} {live : X → Lives D} {faults : X → ℕ} (engine : X) (old new : Seen) (n : ℕ) (stream : IsSome (at n old.state.streams)) where
   -- the stream was put, and no entry added
-  put_adds_none : (y : Stream → Stream) (exchanges : Numbered ℕ) (P : List Entry → Type 0) → ((x : Stream) → (y x).task.session.state ≡ x.task.session.state) → ((x : Stream) → at n old.state.streams ≡ Some x → new ≡ with_put n (y x) exchanges old) → P []
+  pub put_adds_none : (y : Stream → Stream) (exchanges : Numbered ℕ) (P : List Entry → Type 0) → ((x : Stream) → (y x).task.session.state ≡ x.task.session.state) → ((x : Stream) → at n old.state.streams ≡ Some x → new ≡ with_put n (y x) exchanges old) → P []
       → Adds told shared m db live faults engine engine old new P
   put_adds_none y exchanges P same h p =
       let x = some_of (at n old.state.streams) stream in
@@ -369,8 +372,8 @@ still_known n x old new known is = ap (λ (s : Seen). at n s.state.streams) is �
 
 -- ---- where the exchange is taken out
 
-pub ahead_put : (n : ℕ) (y : Stream) (exchanges : Numbered ℕ) (h : Seen) → IsAhead h.state → IsAhead (with_put n y exchanges h).state
-ahead_put n y exchanges h a = record { streams = a.streams; units = a.units; commits = a.commits; batons = a.batons; few = a.few }
+may_put : (n : ℕ) (y : Stream) (exchanges : Numbered ℕ) (h : Seen) → MayIssue h.state → MayIssue (with_put n y exchanges h).state
+may_put n y exchanges h a = record { batons = a.batons; few = a.few }
 
 -- the stream at the number, with its exchange
 pub record Taken (old mid : Seen) (n : ℕ) (e : Exchange) : Type 0 where
@@ -389,8 +392,8 @@ module _ (old mid : Seen) (n : ℕ) (e : Exchange) (t : Taken old mid n e) where
   pub taken_agrees : {D : Type 0} (told shared : Bool) (db : D) (live : Lives D) → HubAgrees told shared db live old → HubAgrees told shared db live mid
   taken_agrees told shared db live a = subst (HubAgrees told shared db live) (sym t.is) (rests_agree told shared db live n t.x (in_session (Resting None) t.x) e old.state.exchanges old a t.known (running_session t.x e t.runs) refl refl refl)
 
-  pub taken_ahead : IsAhead old.state → IsAhead mid.state
-  taken_ahead a = subst (λ (h : Seen). IsAhead h.state) (sym t.is) (ahead_put n (in_session (Resting None) t.x) old.state.exchanges old a)
+  pub taken_may : MayIssue old.state → MayIssue mid.state
+  taken_may a = subst (λ (h : Seen). MayIssue h.state) (sym t.is) (may_put n (in_session (Resting None) t.x) old.state.exchanges old a)
 
   pub taken_stopped : old.state.stopped ≡ false → mid.state.stopped ≡ false
   taken_stopped runs = ap (λ (h : Seen). h.state.stopped) t.is ∙ runs
@@ -424,3 +427,121 @@ module _ (old mid : Seen) (n : ℕ) (e : Exchange) (t : Taken old mid n e) where
 -- its exchange runs, so there was one to take out
 pub none_taken : {P : Type 0} (old : Seen) (n : ℕ) (r : Option Exchange) → IsSome (at n old.state.streams) → r ≡ None → ((x : Stream) → at n old.state.streams ≡ Some x → IsSome (running_of x)) → ((x : Stream) → at n old.state.streams ≡ Some x → r ≡ running_of x) → P
 none_taken old n r stream none runs running = (let x = some_of (at n old.state.streams) stream in absurd (true≢false (sym (runs x.0 x.1) ∙ ap is_some (sym (running x.0 x.1) ∙ none))))
+
+-- the baton was issued, the stream rests with it, and the exchange is over
+pub handed_out : (n c : ℕ) (drawn : List ℕ) (x : Stream) (inside old mid : Seen) (text : List ℕ) (store : Batons) (exchanges : Numbered ℕ) → inside ≡ old → text ≡ next_baton drawn old.state → store ≡ with_baton inside.store (numbered n) drawn inside.state.now
+    → mid ≡ with_state (with_streams (put n (rested text inside.state.now x) inside.state.streams) (issues inside.state)) (record inside { store = store }) → exchanges ≡ without c mid.state.exchanges → HandsOut old n c drawn x (with_state (record mid.state { exchanges = exchanges }) mid)
+handed_out n c drawn x inside old mid text store exchanges view named stored is rest = record {
+  state = ap (λ es. record mid.state { exchanges = es }) rest ∙ ap (λ (h : Seen). without_exchange c h.state) is
+      ∙ ap (λ t. without_exchange c (with_streams (put n (rested t inside.state.now x) inside.state.streams) (issues inside.state))) named
+      ∙ ap (λ (h : Seen). without_exchange c (with_streams (put n (rested (next_baton drawn old.state) h.state.now x) h.state.streams) (issues h.state))) view;
+  store = ap (λ (h : Seen). h.store) is ∙ stored ∙ ap (λ (h : Seen). with_baton h.store (numbered n) drawn h.state.now) view;
+  token = ap (λ (h : Seen). h.token) is ∙ ap (λ (h : Seen). h.token) view;
+  turns = ap (λ (h : Seen). h.turns) is ∙ ap (λ (h : Seen). h.turns) view;
+  noted = ap (λ (h : Seen). h.noted) is ∙ ap (λ (h : Seen). h.noted) view;
+}
+
+-- ---- what a poll of a stream whose exchange runs is told as
+
+abbrev pub SettlesRunning : Seen → ℕ → Poll Stepped → Outs → State → List Entry → Type 0
+SettlesRunning old n result out new added = (x : Stream) (e : Exchange) → IsRunning old.state n x e → Settles old.state n x e result added out new
+
+pub settled_as : (old : Seen) (n : ℕ) (result result' : Poll Stepped) (out : Outs) (new : State) (added : List Entry) → result ≡ result' → SettlesRunning old n result out new added → SettlesRunning old n result' out new added
+settled_as old n result result' out new added e h x f r = subst (λ p. Settles old.state n x f p added out new) e (h x f r)
+
+module _ {X D : Type 0} {told shared : Bool} {m : Meaning D BoundStmt Answer} {db : X → D} {live : X → Lives D} {faults : X → ℕ} (engine : X) where
+  pub quiet_adds : (old : Seen) (n : ℕ) (result : Poll Stepped) (out : Outs) → reply_in result ≡ None → (result ≡ Ready stepped.Broke → ⊥) → out ≡ nothing → Adds told shared m db live faults engine engine old old (SettlesRunning old n result out old.state)
+  quiet_adds old n result out none whole given = adds_none engine old old (SettlesRunning old n result out old.state) refl (record { version = refl; next = refl; states = λ k. refl }) (λ x e r. rests_settle old.state n x e result out none whole given r.known)
+
+  pub gives_running : (old new : Seen) (n : ℕ) → IsSome (at n old.state.streams) → (c : ℕ) (close : Bool) (result : Poll Stepped) (out : Outs) → FellShort result → ((x : Stream) → at n old.state.streams ≡ Some x → IsRunningFor c close x) → out ≡ empty_503 c close → GivesUpTo old new n c
+      → Adds told shared m db live faults engine engine old new (SettlesRunning old n result out new.state)
+  gives_running old new n stream c close result out short runs given h =
+      put_adds_none engine old new n stream (given_up old.state.now) (without c old.state.exchanges) (SettlesRunning old n result out new.state) (λ x. refl) h
+      (λ x e r.
+      let own = runs x r.known in
+      let same : own.e ≡ e = some_one (sym own.runs ∙ r.runs) in
+      let conn : c ≡ e.conn = sym own.conn ∙ ap (λ (f : Exchange). f.conn) same in
+      let closes : close ≡ e.close = sym own.closes ∙ ap (λ (f : Exchange). f.close) same in
+      falls_settle old.state n x e result out new.state short (given ∙ ap (λ d. empty_503 d close) conn ∙ ap (empty_503 e.conn) closes)
+      (ap (λ (s : Seen). s.state) (h x r.known) ∙ ap (λ d. without_exchange d (with_streams (put n (given_up old.state.now x) old.state.streams) old.state)) conn))
+
+-- ---- after the poll, before what it gave is told
+
+module _ (shared : Bool) (s mid : State) (n : ℕ) (x : Stream) (added : List Entry) (result : Poll Stepped) where
+  pub polled_may : PollsStream shared s n x added result mid → IsAhead s → MayIssue mid
+  polled_may p a =
+      let issued = ap (λ (z : State). z.issued) p.left in
+      let events = ap (λ (z : State). z.events) p.left in
+      record { batons = omega (arith, issued, events, a.batons); few = omega (arith, events, a.few) }
+
+  pub polled_stopped : PollsStream shared s n x added result mid → s.stopped ≡ false → mid.stopped ≡ false
+  polled_stopped p runs = ap (λ (z : State). z.stopped) p.left ∙ runs
+
+  pub polled_kind : PollsReplyToPipelines → PollsStream shared s n x added result mid → HasPipelineReply result
+  polled_kind law p = by result p.polls
+    where
+      by : (r : Poll Stepped) → Polls shared (seen_of p.by s) x.task p.entry r p.task → HasPipelineReply r
+      by (Ready (stepped.Replied reply)) h = law shared (seen_of p.by s) x.task p.task p.entry reply h
+      by (Ready stepped.Ran) h = tt
+      by (Ready stepped.Idle) h = tt
+      by (Ready stepped.Broke) h = tt
+      by Pending h = tt
+
+  pub polled_runs : (c : ℕ) (close : Bool) → at n s.streams ≡ Some x → PollsStream shared s n x added result mid → IsRunningFor c close x → (y : Stream) → at n mid.streams ≡ Some y → IsRunningFor c close y
+  polled_runs c close known p r y e =
+      let same : with_task p.task x ≡ y = some_one (sym (known_left shared s mid n x added result known p) ∙ e) in
+      subst (IsRunningFor c close) same (record { e = r.e; runs = r.runs; conn = r.conn; closes = r.closes })
+
+  pub running_left : (e : Exchange) → IsRunning s n x e → (p : PollsStream shared s n x added result mid) → IsRunning mid n (with_task p.task x) e
+  running_left e r p = record { known = known_left shared s mid n x added result r.known p; runs = r.runs }
+
+-- ---- want of memory before the engine is called
+
+pub early_gives : (shared : Bool) (h : Seen) (n : ℕ) (x : Stream) (e : Exchange) (out : Outs) (new : State) → TurnIsWriters h.turns (states_of h.state.streams) → is_waiting x.task.asks ≡ true → out ≡ empty_503 e.conn e.close → new ≡ gives_up n x e h.state → Ends shared h.state n x e [] out new
+early_gives shared h n x e out new turn waits given left = short_as out _ _ (ap is_short given) (record {
+  by = h.turns.turn;
+  writer = turn;
+  entry = None;
+  result = Ready stepped.Broke;
+  task = with_asks x.task x.task.session.state [];
+  polls = early shared (seen_of h.turns.turn h.state) x.task x.task.asks waits;
+  short = tt;
+  one = refl;
+  given = given;
+  left = left;
+})
+
+-- the exchange of the stream is that of the connection
+pub gives_left : (old mid new : Seen) (n c : ℕ) (close : Bool) (x : Stream) (r : IsRunningFor c close x) → mid.state ≡ old.state → new ≡ with_put n (given_up mid.state.now x) (without c mid.state.exchanges) mid → new.state ≡ gives_up n x r.e old.state
+gives_left old mid new n c close x r same is =
+    ap (λ (h : Seen). h.state) is ∙ ap (λ (s : State). record s { streams = put n (given_up s.now x) s.streams; exchanges = without c s.exchanges }) same
+    ∙ ap (λ d. record old.state { streams = put n (given_up old.state.now x) old.state.streams; exchanges = without d old.state.exchanges }) (sym r.conn)
+
+pub gives_answer : (out : Outs) (c : ℕ) (close : Bool) (x : Stream) (r : IsRunningFor c close x) → out ≡ empty_503 c close → out ≡ empty_503 r.e.conn r.e.close
+gives_answer out c close x r given = given ∙ ap (λ d. empty_503 d close) (sym r.conn) ∙ ap (empty_503 r.e.conn) (sym r.closes)
+
+-- ---- whom the stream answers
+
+pub nobody_rests : (x : Stream) → asker_of x ≡ asker.Nobody → (baton : Option Issued) × (x.session ≡ Some (Resting baton))
+nobody_rests x e = by x.session refl e
+  where
+    by : (v : Option Session) → x.session ≡ v → asker_in v x ≡ asker.Nobody → (baton : Option Issued) × (x.session ≡ Some (Resting baton))
+    by None is f = absurd (cc)
+    by (Some (Resting baton)) is f = (baton, is)
+    by (Some (Running g)) is f = absurd (cc)
+
+pub connection_answers : (x : Stream) (c : ℕ) → asker_of x ≡ asker.Connection c → (x.session ≡ None) × (x.conn ≡ c)
+connection_answers x c e = by x.session refl e
+  where
+    by : (v : Option Session) → x.session ≡ v → asker_in v x ≡ asker.Connection c → (x.session ≡ None) × (x.conn ≡ c)
+    by None is f = (is, cc)
+    by (Some (Resting baton)) is f = absurd (cc)
+    by (Some (Running g)) is f = absurd (cc)
+
+pub exchange_answers : (x : Stream) (c : ℕ) (close : Bool) → asker_of x ≡ asker.Exchange c close → IsRunningFor c close x
+exchange_answers x c close e = by x.session refl e
+  where
+    by : (v : Option Session) → x.session ≡ v → asker_in v x ≡ asker.Exchange c close → IsRunningFor c close x
+    by None is f = absurd (cc)
+    by (Some (Resting baton)) is f = absurd (cc)
+    by (Some (Running g)) is f = record { e = g; runs = ap exchange_in is; conn = cc; closes = cc }

@@ -399,7 +399,7 @@ settle_told old new n c id reply out added given first t k x ek ex =
 
 -- ---- want of memory before the engine is called
 
-early : (shared : Bool) (seen : Sees) (old : Task) (asks : List Work) → is_waiting asks ≡ true → PollsAsks shared seen old asks None (Ready stepped.Broke) (with_asks old old.session.state [])
+pub early : (shared : Bool) (seen : Sees) (old : Task) (asks : List Work) → is_waiting asks ≡ true → PollsAsks shared seen old asks None (Ready stepped.Broke) (with_asks old old.session.state [])
 early shared seen old [] e = absurd (cc)
 early shared seen old (w ∷ rest) e = record {
   advanced = _;

@@ -13,7 +13,7 @@ ghost use Rattle.hrana_hub.specs.Adds.{Adds};
 ghost use Rattle.hrana_hub.specs.Agrees.{HubAgrees, IsAhead};
 ghost use Rattle.hrana_hub.specs.Askers.{running_of};
 ghost use Rattle.hrana_hub.specs.Exchanges.{answers_with, empty_503, leaves, in_session, without_exchange, next_baton};
-ghost use Rattle.hrana_hub.specs.ExchangeSettled.{IsRunning, IsRunningFor, HasPipelineReply, Settles, Ends, HandsOut, Concludes, given_up, rested};
+ghost use Rattle.hrana_hub.specs.ExchangeSettled.{MayIssue, IsRunning, IsRunningFor, HasPipelineReply, Settles, Ends, HandsOut, Concludes, given_up, rested};
 ghost use Rattle.hrana_hub.specs.Step.{PollSteps};
 ghost use Rattle.hrana_hub.specs.Maps.{at, put};
 ghost use Rattle.hrana_hub.specs.Polled.{with_streams};
@@ -148,7 +148,7 @@ impl Hub {
         running: Running,
     ) -> Result<Outs, NoMemory>
         requires agrees { HubAgrees E.told E.SHARED (E.db engine.old) (E.live engine.old) self.old }
-        requires ahead { IsAhead self.old.state }
+        requires issues { MayIssue self.old.state }
         requires running { self.old.state.stopped ≡ false }
         requires rests { (x : Stream) → at stream self.old.state.streams ≡ Some x → x.session ≡ Some (Session.Resting None) }
         requires stream { IsSome (at stream self.old.state.streams) }
@@ -182,7 +182,7 @@ impl Hub {
         reply: Reply,
     ) -> Outs
         requires agrees { HubAgrees E.told E.SHARED (E.db engine.old) (E.live engine.old) self.old }
-        requires ahead { IsAhead self.old.state }
+        requires issues { MayIssue self.old.state }
         requires running { self.old.state.stopped ≡ false }
         requires kind { IsPipelineReply reply }
         requires rests { (x : Stream) → at stream self.old.state.streams ≡ Some x → x.session ≡ Some (Session.Resting None) }
@@ -211,7 +211,7 @@ impl Hub {
     /// The stream has replied to the first of the requests of its exchange.
     fn note_reply<E: Engine>(&mut self, engine: &mut E, stream: u64, reply: Reply) -> Outs
         requires agrees { HubAgrees E.told E.SHARED (E.db engine.old) (E.live engine.old) self.old }
-        requires ahead { IsAhead self.old.state }
+        requires issues { MayIssue self.old.state }
         requires running { self.old.state.stopped ≡ false }
         requires kind { IsPipelineReply reply }
         requires runs { (x : Stream) → at stream self.old.state.streams ≡ Some x → IsSome (running_of x) }
@@ -238,7 +238,7 @@ impl Hub {
         polled: Poll<Stepped>,
     ) -> Outs
         requires agrees { HubAgrees E.told E.SHARED (E.db engine.old) (E.live engine.old) self.old }
-        requires ahead { IsAhead self.old.state }
+        requires issues { MayIssue self.old.state }
         requires running { self.old.state.stopped ≡ false }
         requires kind { HasPipelineReply polled }
         requires runs { (x : Stream) → at stream self.old.state.streams ≡ Some x → IsRunningFor conn close x }

@@ -1,5 +1,5 @@
 // Polls of streams.
-ghost use Rattle.std.specs.Prelude.{◌≡◌, ◌≤◌, ◌+◌, true, [], Some, IsSome, length, OnOk};
+ghost use Rattle.std.specs.Prelude.{◌≡◌, ◌≤◌, ◌+◌, true, false, None, [], Some, IsSome, length, OnOk};
 ghost use Rattle.stream_requests.specs.declared.replies.Reply.{Reply};
 ghost use Rattle.stream_task.specs.Polls.{is_waiting};
 ghost use Rattle.hrana_hub.specs.Adds.{Adds};

@@ -40,7 +40,7 @@ pub returns-clause-agrees : goal.returns-clause-agrees
 returns-clause-agrees g c =
     let h = c.args.self.now in
     let x = some_of (at c.args.stream h.state.streams) c.requires.stream in
-    hands_agree _ _ _ _ c.args.stream c.args.running.conn c.args.running.words x.0 h c.hand_out.new.self c.requires.agrees c.requires.ahead x.1 (c.requires.rests x.0 x.1) (c.hand_out.ensures.hub x.0 x.1)
+    hands_agree _ _ _ _ c.args.stream c.args.running.conn c.args.running.words x.0 h c.hand_out.new.self c.requires.agrees c.requires.issues x.1 (c.requires.rests x.0 x.1) (c.hand_out.ensures.hub x.0 x.1)
 
 pub returns-clause-token : goal.returns-clause-token
 returns-clause-token g c =

@@ -1,13 +1,13 @@
 use Rattle.hrana_hub.proofs.Adding.{adds_from}
-use Rattle.hrana_hub.proofs.ExchangePolling.{taken, taken_agrees, taken_ahead, taken_stopped, taken_rests, taken_known, taken_list, taken_token, taken_alike, taken_tells, none_taken}
+use Rattle.hrana_hub.proofs.ExchangePolling.{taken, taken_agrees, taken_may, taken_stopped, taken_rests, taken_known, taken_list, taken_token, taken_alike, taken_tells, none_taken}
 use Rattle.hrana_hub.proofs.hub.Hub.note_reply.Goals as goal
 use Rattle.std.proofs.Common.{◌∙◌}
 
 pub proceed-requires-clause-agrees : goal.proceed-requires-clause-agrees
 proceed-requires-clause-agrees g c = taken_agrees _ _ _ _ (taken c.args.self.now c.take_running.new.self c.args.stream c.in-Some.running _ c.requires.stream c.in-Some.is c.take_running.ensures.running c.take_running.ensures.hub) _ _ _ _ c.requires.agrees
 
-pub proceed-requires-clause-ahead : goal.proceed-requires-clause-ahead
-proceed-requires-clause-ahead g c = taken_ahead _ _ _ _ (taken c.args.self.now c.take_running.new.self c.args.stream c.in-Some.running _ c.requires.stream c.in-Some.is c.take_running.ensures.running c.take_running.ensures.hub) c.requires.ahead
+pub proceed-requires-clause-issues : goal.proceed-requires-clause-issues
+proceed-requires-clause-issues g c = taken_may _ _ _ _ (taken c.args.self.now c.take_running.new.self c.args.stream c.in-Some.running _ c.requires.stream c.in-Some.is c.take_running.ensures.running c.take_running.ensures.hub) c.requires.issues
 
 pub proceed-requires-clause-running : goal.proceed-requires-clause-running
 proceed-requires-clause-running g c = taken_stopped _ _ _ _ (taken c.args.self.now c.take_running.new.self c.args.stream c.in-Some.running _ c.requires.stream c.in-Some.is c.take_running.ensures.running c.take_running.ensures.hub) c.requires.running
