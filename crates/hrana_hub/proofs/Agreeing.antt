@@ -214,8 +214,11 @@ module _ {D : Type 0} (told shared : Bool) (db : D) (live : Lives D) (old new : 
   }
 
   -- the streams are the same
+  pub left_agrees : HubAgrees told shared db live old → Moves old new old.state.streams → StoreAgrees new → HubAgrees told shared db live new
+  left_agrees h s store = agrees_left old.state.streams h s (λ k. refl) (λ k some. some) (numbers_as old.state new.state s.streams_are s.opened h.numbers) h.places store
+
   pub same_agrees : HubAgrees told shared db live old → Stays old new old.state.streams → HubAgrees told shared db live new
-  same_agrees h s = agrees_left old.state.streams h s.moves (λ k. refl) (λ k some. some) (numbers_as old.state new.state s.moves.streams_are s.moves.opened h.numbers) h.places (store_still old.state.streams h s (λ t. t))
+  same_agrees h s = left_agrees h s.moves (store_still old.state.streams h s (λ t. t))
 
   -- one has another task in the same state
   pub moves_agrees : (n : ℕ) (x y : Stream) → HubAgrees told shared db live old → at n old.state.streams ≡ Some x → y.task.stream ≡ x.task.stream → y.task.session.state ≡ x.task.session.state → Moves old new (put n y old.state.streams) → StoreAgrees new → HubAgrees told shared db live new

@@ -29,15 +29,15 @@ module _ {D : Type 0} (shared : Bool) (m : Meaning D BoundStmt Answer) (db : D) 
   abbrev Stays : D → List Entry → Type 0
   Stays first journal = HubStands shared m first journal db live old → HubStands shared m first journal db live new
 
-  joined_stands : (c : ℕ) → JoinsStanding shared m → IsNumbered old.state → new.turns ≡ with_place old.turns (numbered (old.state.opened + 1)) → new.noted.next ≡ old.noted.next
-      → new.state.streams ≡ placed (old.state.opened + 1) (fresh old.state.now c (old.state.opened + 1)) old.state.streams → (first : D) (journal : List Entry) → Stays first journal
-  joined_stands c joins numbers turns next streams first journal h =
+  joined_stands : (x : Stream) → JoinsStanding shared m → IsNumbered old.state → new.turns ≡ with_place old.turns (numbered (old.state.opened + 1)) → new.noted.next ≡ old.noted.next
+      → x.task.session.state ≡ Auto → new.state.streams ≡ placed (old.state.opened + 1) x old.state.streams → (first : D) (journal : List Entry) → Stays first journal
+  joined_stands x joins numbers turns next auto streams first journal h =
       let n = old.state.opened + 1 in
-      let x = fresh old.state.now c n in
       let t = with_place old.turns (numbered n) in
       let free : at n old.state.streams ≡ None = numbers.opened n (omega arith) in
+      let states : Put (states_of old.state.streams) (states_of (placed n x old.state.streams)) n (Some Auto) = subst (λ v. Put (states_of old.state.streams) (states_of (placed n x old.state.streams)) n (Some v)) auto (placed_states n x old.state.streams) in
       let stands : StandsFor shared m first journal db live t old.noted.next (states_of (placed n x old.state.streams)) =
-      joins db live old.turns old.noted.next (states_of old.state.streams) (states_of (placed n x old.state.streams)) (numbered n) (ap state_in free) (placed_states n x old.state.streams) first journal h in
+      joins db live old.turns old.noted.next (states_of old.state.streams) (states_of (placed n x old.state.streams)) (numbered n) (ap state_in free) states first journal h in
       subst (λ (u : Turns). StandsFor shared m first journal db live u new.noted.next (states_of new.state.streams)) (sym turns)
       (subst (λ k. StandsFor shared m first journal db live t k (states_of new.state.streams)) (sym next) (subst (λ es. StandsFor shared m first journal db live t old.noted.next (states_of es)) (sym streams) stands))
 
@@ -46,16 +46,16 @@ module _ {D : Type 0} (shared : Bool) (m : Meaning D BoundStmt Answer) (db : D) 
       hub_stands shared m db live old new (record { version = version_stays old new turns; next = next; states = λ k. ap (λ es. states_of es k) streams }) first journal
   arrived_stands joins numbers turns next (puts_one n x y there stream state streams opened) first journal =
       hub_stands shared m db live old new (record { version = version_stays old new turns; next = next; states = λ k. ap (λ es. states_of es k) streams ∙ same_states n x y old.state.streams there state k }) first journal
-  arrived_stands joins numbers turns next (adds_one c streams opened) first journal = elim turns [
+  arrived_stands joins numbers turns next (adds_one x named auto streams opened) first journal = elim turns [
     | inl stay ↦ absurd (let same = stay.1 in omega (arith, same, opened))
-    | inr place ↦ joined_stands c joins numbers place next streams first journal
+    | inr place ↦ joined_stands x joins numbers place next auto streams first journal
   ]
 
 module _ {X D : Type 0} {told shared : Bool} {m : Meaning D BoundStmt Answer} {db : X → D} {live : X → Lives D} {faults : X → ℕ} (engine : X) (old new : Seen) (P : List Entry → Type 0)
-    (joins : JoinsStanding shared m) (agrees : HubAgrees told shared (db engine) (live engine) old) (after : IsAfter new.state old new) (holds : P []) where
-  arrived_adds : Moves old.state new.state → Adds told shared m db live faults engine engine old new P
-  arrived_adds moves = adds_nothing engine old new P (ap (λ (n : Noted). n.list) after.noted)
-      (leads_none shared m (db engine) (live engine) old new (arrived_stands shared m (db engine) (live engine) old new joins agrees.numbers after.turns (ap (λ (n : Noted). n.next) after.noted) moves)) holds
+    (joins : JoinsStanding shared m) (agrees : HubAgrees told shared (db engine) (live engine) old) (noted : new.noted ≡ old.noted) (turns : TurnsStay old new) (holds : P []) where
+  pub arrived_adds : Moves old.state new.state → Adds told shared m db live faults engine engine old new P
+  arrived_adds moves = adds_nothing engine old new P (ap (λ (n : Noted). n.list) noted)
+      (leads_none shared m (db engine) (live engine) old new (arrived_stands shared m (db engine) (live engine) old new joins agrees.numbers turns (ap (λ (n : Noted). n.next) noted) moves)) holds
 
   pub text_adds : (token : Option (List ℕ)) (c : ℕ) (text : List ℕ) (out : Outs) → TextSteps token old.state c text out new.state → Adds told shared m db live faults engine engine old new P
   text_adds token c text out steps = (let a : Arrived old.state new.state = text_arrived token old.state c text out new.state steps in arrived_adds a.moves)

@@ -29,14 +29,14 @@ use Rattle.stream_task.specs.declared.session.TxnState.TheVariants.{Auto, Deferr
 use Rattle.hrana_hub.specs.declared.limits.TheConstants.{MAX_STREAMS}
 use Rattle.baton_store.specs.Batons.{Batons}
 use Rattle.hrana_hub.specs.Agrees.{HubAgrees, IsNumbered, IsAhead, IsTied, open_units}
-use Rattle.hrana_hub.proofs.Tied.{tied_placed}
+use Rattle.hrana_hub.proofs.Tied.{tied_placed, tied_put}
 use Rattle.hrana_hub.specs.Arrivals.{Went, quiet, accepts, on_hello, closing, with_conn, shut, fresh, opens, opens_unless, with_stream, unopened, asks, asks_at, queues, waiting, with_request, stores, stores_unless, on_request, on_numbered, if_greeted, on_answer, TurnsStay, IsAfter}
 use Rattle.stream_task.specs.Texts.{is_full}
 use Rattle.hrana_hub.specs.Maps.{Numbered, at, put, placed, id_at}
 use Rattle.hrana_hub.specs.State.{Conn, Stream, State, Seen, states_of, state_in}
 use Rattle.hrana_hub.specs.Step.{Goes, ReadText, OpenText, TextFell, Heard, TextSteps, BinarySteps, is_short, with_new_conn}
 use Rattle.hrana_hub.specs.Texts.{put_ask}
-use Rattle.hrana_hub.proofs.Agreeing.{Stays, same_agrees, stays_agrees}
+use Rattle.hrana_hub.proofs.Agreeing.{Moves as Kept, StoreAgrees, left_agrees, moves_agrees}
 use Rattle.hrana_hub.proofs.ArrivalLemmas.{unopened_same}
 use Rattle.hrana_hub.proofs.MapLemmas.{none_some, some_one, at_placed, at_placed_other, rises_placed, at_first, at_later, placed_less, placed_more}
 
@@ -45,8 +45,8 @@ use Rattle.hrana_hub.proofs.MapLemmas.{none_some, some_one, at_placed, at_placed
 -- they are as before, one was asked one thing more, or one was opened
 pub data Moves (s s' : State) : Type 0 where
   keeps_all : s'.streams ≡ s.streams → s'.opened ≡ s.opened → Moves s s'
-  puts_one : (n : ℕ) (x y : Stream) → at n s.streams ≡ Some x → y.task.stream ≡ x.task.stream → y.task.session.state ≡ x.task.session.state → y.session ≡ x.session → s'.streams ≡ put n y s.streams → s'.opened ≡ s.opened → Moves s s'
-  adds_one : (c : ℕ) → s'.streams ≡ placed (s.opened + 1) (fresh s.now c (s.opened + 1)) s.streams → s'.opened ≡ s.opened + 1 → Moves s s'
+  puts_one : (n : ℕ) (x y : Stream) → at n s.streams ≡ Some x → y.task.stream ≡ x.task.stream → y.task.session.state ≡ x.task.session.state → s'.streams ≡ put n y s.streams → s'.opened ≡ s.opened → Moves s s'
+  adds_one : (x : Stream) → x.task.stream ≡ numbered (s.opened + 1) → x.task.session.state ≡ Auto → s'.streams ≡ placed (s.opened + 1) x s.streams → s'.opened ≡ s.opened + 1 → Moves s s'
 
 pub record Arrived (s s' : State) : Type 0 where
   pub next : s'.next ≡ s.next
@@ -54,19 +54,20 @@ pub record Arrived (s s' : State) : Type 0 where
   pub events : s'.events ≡ s.events
   pub issued : s'.issued ≡ s.issued
   pub stopped : s'.stopped ≡ s.stopped
+  pub ties : (store : Batons) → IsNumbered s → IsTied s.streams store → IsTied s'.streams store
   pub moves : Moves s s'
 
 none_arrived : (s : State) → Arrived s s
-none_arrived s = record { next = refl; version = refl; events = refl; issued = refl; stopped = refl; moves = keeps_all refl refl }
+none_arrived s = record { next = refl; version = refl; events = refl; issued = refl; stopped = refl; ties = λ store numbers t. t; moves = keeps_all refl refl }
 
 conn_arrived : (c : ℕ) (k : Conn) (s : State) → Arrived s (with_conn c k s)
-conn_arrived c k s = record { next = refl; version = refl; events = refl; issued = refl; stopped = refl; moves = keeps_all refl refl }
+conn_arrived c k s = record { next = refl; version = refl; events = refl; issued = refl; stopped = refl; ties = λ store numbers t. t; moves = keeps_all refl refl }
 
 stream_arrived : (c : ℕ) (k : Conn) (id : ℤ) (s : State) → Arrived s (with_stream c k id s)
-stream_arrived c k id s = record { next = refl; version = refl; events = refl; issued = refl; stopped = refl; moves = adds_one c refl refl }
+stream_arrived c k id s = record { next = refl; version = refl; events = refl; issued = refl; stopped = refl; ties = λ store numbers t. tied_placed (s.opened + 1) (fresh s.now c (s.opened + 1)) s.streams store (numbers.opened (s.opened + 1) (omega arith)) refl t; moves = adds_one (fresh s.now c (s.opened + 1)) refl refl refl refl }
 
 request_arrived : (c : ℕ) (k : Conn) (stream : ℤ) (n : ℕ) (x : Stream) (id : ℤ) (what : Ask) (s : State) → at n s.streams ≡ Some x → Arrived s (with_request c k stream n x id what s)
-request_arrived c k stream n x id what s there = record { next = refl; version = refl; events = refl; issued = refl; stopped = refl; moves = puts_one n x (waiting id what x) there refl refl refl refl refl }
+request_arrived c k stream n x id what s there = record { next = refl; version = refl; events = refl; issued = refl; stopped = refl; ties = λ store numbers t. tied_put n x (waiting id what x) s.streams store there refl t; moves = puts_one n x (waiting id what x) there refl refl refl refl }
 
 left_arrived : (s new new' : State) → new' ≡ new → Arrived s new → Arrived s new'
 left_arrived s new new' e h = subst (λ u. Arrived s u) (sym e) h
@@ -74,7 +75,7 @@ left_arrived s new new' e h = subst (λ u. Arrived s u) (sym e) h
 -- ---- arrivals by what they are
 
 hello_arrived : (accepted : Bool) (c : ℕ) (k : Conn) (s : State) → Arrived s (on_hello accepted c k s).state
-hello_arrived true c k s = record { next = refl; version = refl; events = refl; issued = refl; stopped = refl; moves = keeps_all refl refl }
+hello_arrived true c k s = record { next = refl; version = refl; events = refl; issued = refl; stopped = refl; ties = λ store numbers t. t; moves = keeps_all refl refl }
 hello_arrived false c k s = conn_arrived c (shut k) s
 
 opens_arrived : (o : Option ℕ) (c : ℕ) (k : Conn) (id stream : ℤ) (s : State) → Arrived s (opens o c k id stream s).state
@@ -106,7 +107,7 @@ stores_arrived None c k id number sql s = by (is_full k.texts sql)
   where
     by : (full : Bool) → Arrived s (stores_unless full c k id number sql s).state
     by true = none_arrived s
-    by false = record { next = refl; version = refl; events = refl; issued = refl; stopped = refl; moves = keeps_all refl refl }
+    by false = record { next = refl; version = refl; events = refl; issued = refl; stopped = refl; ties = λ store numbers t. t; moves = keeps_all refl refl }
 
 requests_arrived : (c : ℕ) (k : Conn) (id : ℤ) (asked : WsRequest) (s : State) → Arrived s (on_request c k id asked s).state
 requests_arrived c k id (request.OpenStream stream) s = opens_arrived (id_at stream k.ids) c k id stream s
@@ -115,7 +116,7 @@ requests_arrived c k id (request.OpenCursor stream cursor batch) s = none_arrive
 requests_arrived c k id (request.CloseCursor cursor) s = none_arrived s
 requests_arrived c k id (request.FetchCursor cursor count) s = none_arrived s
 requests_arrived c k id (request.StoreSql number sql) s = stores_arrived (stored_text number k.texts) c k id number sql s
-requests_arrived c k id (request.CloseSql number) s = record { next = refl; version = refl; events = refl; issued = refl; stopped = refl; moves = keeps_all refl refl }
+requests_arrived c k id (request.CloseSql number) s = record { next = refl; version = refl; events = refl; issued = refl; stopped = refl; ties = λ store numbers t. t; moves = keeps_all refl refl }
 
 numbered_arrived : (c : ℕ) (k : Conn) (id : ℤ) (asked : Result WsRequest Decline) (s : State) → Arrived s (on_numbered c k id asked s).state
 numbered_arrived c k id (Ok asked) s = requests_arrived c k id asked s
@@ -168,7 +169,7 @@ binary_arrived s c out new h =
     heard_arrived s (at c s.conns) (λ k. Goes (closing c k None 1003 s) [] out new) out new (λ k g. left_arrived s (with_conn c (shut k) s) new g.left (conn_arrived c (shut k) s)) h
 
 pub new_arrived : (s : State) (c : ℕ) (closing : Bool) (new : State) → new ≡ with_new_conn c closing s → Arrived s new
-new_arrived s c closing new e = left_arrived s (with_new_conn c closing s) new e (record { next = refl; version = refl; events = refl; issued = refl; stopped = refl; moves = keeps_all refl refl })
+new_arrived s c closing new e = left_arrived s (with_new_conn c closing s) new e (record { next = refl; version = refl; events = refl; issued = refl; stopped = refl; ties = λ store numbers t. t; moves = keeps_all refl refl })
 
 -- ---- one more place in the table of turns
 
@@ -261,92 +262,100 @@ placed_states n x es = record { here = ap state_in (at_placed n x es); others = 
 known_placed : (n k : ℕ) (x : Stream) (es : Numbered Stream) → at n es ≡ None → IsSome (at k es) → IsSome (at k (placed n x es))
 known_placed n k x es none some = ap is_some (at_placed_other n k x es (λ here. true≢false (sym some ∙ ap is_some (ap (λ j. at j es) here ∙ none)))) ∙ some
 
-numbers_joined : (s s' : State) (c : ℕ) → IsNumbered s → s'.streams ≡ placed (s.opened + 1) (fresh s.now c (s.opened + 1)) s.streams → s'.opened ≡ s.opened + 1 → IsNumbered s'
-numbers_joined s s' c h streams opened =
+numbers_joined : (s s' : State) (x : Stream) → IsNumbered s → x.task.stream ≡ numbered (s.opened + 1) → s'.streams ≡ placed (s.opened + 1) x s.streams → s'.opened ≡ s.opened + 1 → IsNumbered s'
+numbers_joined s s' x h named streams opened =
     let n = s.opened + 1 in
-    let x = fresh s.now c n in
     record {
       rising = subst (λ es. IsStrictlySortedBy nat_cmp (keys_of es)) (sym streams) (rises_placed n x s.streams h.rising);
       own = λ k z f. (let there : at k (placed n x s.streams) ≡ Some z = ap (at k) (sym streams) ∙ f in
           elim (cases_eq k n) [
             | inl here ↦
                 let is : x ≡ z = some_one (sym (at_placed n x s.streams) ∙ (ap (λ j. at j (placed n x s.streams)) (sym here) ∙ there)) in
-                ap (λ (y : Stream). y.task.stream) (sym is) ∙ ap numbered (sym here)
+                ap (λ (y : Stream). y.task.stream) (sym is) ∙ named ∙ ap numbered (sym here)
             | inr ne ↦ h.own k z (sym (at_placed_other n k x s.streams ne) ∙ there)
           ]);
       opened = λ k lt. (let ne : k ≢ n = λ here. omega (arith, opened) in
           ap (at k) streams ∙ (at_placed_other n k x s.streams ne ∙ h.opened k (omega (arith, opened))));
     }
 
-joined_agrees : {D : Type 0} (told shared : Bool) (db : D) (live : Lives D) (old new : Seen) (c : ℕ) → JoinsTogether D told shared → IsAhead old.state → HubAgrees told shared db live old → new.turns ≡ with_place old.turns (numbered (old.state.opened + 1)) → new.noted ≡ old.noted → new.store ≡ old.store → new.state.issued ≡ old.state.issued → new.state.stopped ≡ old.state.stopped
-    → new.state.next ≡ old.state.next → new.state.version ≡ old.state.version → new.state.events ≡ old.state.events → new.state.streams ≡ placed (old.state.opened + 1) (fresh old.state.now c (old.state.opened + 1)) old.state.streams → new.state.opened ≡ old.state.opened + 1 → HubAgrees told shared db live new
-joined_agrees {D} told shared db live old new c joins ahead a turns noted store issued stopped next version events streams opened =
+joined_agrees : {D : Type 0} (told shared : Bool) (db : D) (live : Lives D) (old new : Seen) (x : Stream) → JoinsTogether D told shared → IsAhead old.state → HubAgrees told shared db live old → new.turns ≡ with_place old.turns (numbered (old.state.opened + 1)) → new.noted ≡ old.noted → StoreAgrees new
+    → new.state.next ≡ old.state.next → new.state.version ≡ old.state.version → new.state.events ≡ old.state.events → x.task.stream ≡ numbered (old.state.opened + 1) → x.task.session.state ≡ Auto → new.state.streams ≡ placed (old.state.opened + 1) x old.state.streams → new.state.opened ≡ old.state.opened + 1 → HubAgrees told shared db live new
+joined_agrees {D} told shared db live old new x joins ahead a turns noted store next version events named auto streams opened =
     let n = old.state.opened + 1 in
-    let x = fresh old.state.now c n in
     let free : at n old.state.streams ≡ None = a.numbers.opened n (omega arith) in
+    let states : Put (states_of old.state.streams) (states_of (placed n x old.state.streams)) n (Some Auto) = subst (λ v. Put (states_of old.state.streams) (states_of (placed n x old.state.streams)) n (Some v)) auto (placed_states n x old.state.streams) in
     let together : Together told shared db live (with_place old.turns (numbered n)) old.noted.next (states_of (placed n x old.state.streams)) =
-    joins db live old.turns old.noted.next (states_of old.state.streams) (states_of (placed n x old.state.streams)) (numbered n) a.together (ap state_in free) (has_placed (numbered n) old.turns.reserved) (placed_states n x old.state.streams) in
+    joins db live old.turns old.noted.next (states_of old.state.streams) (states_of (placed n x old.state.streams)) (numbered n) a.together (ap state_in free) (has_placed (numbered n) old.turns.reserved) states in
     let next_same = ap (λ (m : Noted). m.next) noted in
     let spare_same = ap (λ (m : Noted). m.spare) noted in
-    let units_same = ap open_units streams ∙ units_placed n x old.state.streams free refl in
+    let units_same = ap open_units streams ∙ units_placed n x old.state.streams free (ap open_of auto) in
     record {
       together = subst (λ (t : Turns). Together told shared db live t new.noted.next (states_of new.state.streams)) (sym turns)
           (subst (λ m. Together told shared db live (with_place old.turns (numbered n)) m (states_of new.state.streams)) (sym next_same)
           (subst (λ es. Together told shared db live (with_place old.turns (numbered n)) old.noted.next (states_of es)) (sym streams) together));
       waiters = λ k w. subst (λ es. IsSome (at k es)) (sym streams) (known_placed n k x old.state.streams free (a.waiters k (sym (ap (λ (t : Turns). has (numbered k) t.waiters) turns) ∙ w)));
-      numbers = numbers_joined old.state new.state c a.numbers streams opened;
+      numbers = numbers_joined old.state new.state x a.numbers named streams opened;
       version = version ∙ (a.version ∙ ap (λ (t : Turns). t.version) (sym turns));
       next = next ∙ (a.next ∙ sym next_same);
       places = omega (arith, units_same, spare_same, a.places);
-      counts = record { streams = omega (arith, opened, events, ahead.streams); units = omega (arith, next, events, ahead.units); commits = omega (arith, version, events, ahead.commits); batons = omega (arith, issued, events, ahead.batons) };
-      tied = λ runs. subst (IsTied new.state.streams) (sym store) (subst (λ es. IsTied es old.store) (sym streams) (tied_placed n x old.state.streams old.store free refl (a.tied (sym stopped ∙ runs))));
-      issued = ap (λ (b : Batons). b.issued) store ∙ a.issued ∙ sym issued;
+      counts = record { streams = omega (arith, opened, events, ahead.streams); units = omega (arith, next, events, ahead.units); commits = omega (arith, version, events, ahead.commits); batons = store.few };
+      tied = store.tied;
+      issued = store.issued;
     }
 
 -- ---- what arrived
 
-arrival_stays : (old new : Seen) → IsAfter new.state old new → (es : Numbered Stream) → new.state.streams ≡ es → new.state.opened ≡ old.state.opened → new.state.next ≡ old.state.next → new.state.version ≡ old.state.version → new.state.events ≡ old.state.events
-    → new.state.issued ≡ old.state.issued → new.state.stopped ≡ old.state.stopped → Stays (with_turns new.turns old) new es
-arrival_stays old new after es streams opened next version events issued stopped = record {
-  moves = record {
-    streams_are = streams;
-    opened = opened;
-    next = next;
-    version = version;
-    events = omega (arith, events);
-    turns = refl;
-    noted = ap (λ (m : Noted). m.next) after.noted;
-    places = (let spare = ap (λ (m : Noted). m.spare) after.noted in omega (arith, spare));
-  };
-  stays = record { issued = issued; stopped = stopped; store = after.store };
+arrival_moves : (old new : Seen) → new.noted ≡ old.noted → (es : Numbered Stream) → new.state.streams ≡ es → new.state.opened ≡ old.state.opened → new.state.next ≡ old.state.next → new.state.version ≡ old.state.version → new.state.events ≡ old.state.events
+    → Kept (with_turns new.turns old) new es
+arrival_moves old new noted es streams opened next version events = record {
+  streams_are = streams;
+  opened = opened;
+  next = next;
+  version = version;
+  events = omega (arith, events);
+  turns = refl;
+  noted = ap (λ (m : Noted). m.next) noted;
+  places = (let spare = ap (λ (m : Noted). m.spare) noted in omega (arith, spare));
 }
 
-arrived_agrees : {D : Type 0} (told shared : Bool) (db : D) (live : Lives D) (old new : Seen) → JoinsTogether D told shared → IsAhead old.state → HubAgrees told shared db live old → IsAfter new.state old new
-    → (next : new.state.next ≡ old.state.next) (version : new.state.version ≡ old.state.version) (events : new.state.events ≡ old.state.events) (issued : new.state.issued ≡ old.state.issued) (stopped : new.state.stopped ≡ old.state.stopped) → Moves old.state new.state → HubAgrees told shared db live new
-arrived_agrees told shared db live old new joins ahead a after next version events issued stopped (keeps_all streams opened) =
-    same_agrees told shared db live (with_turns new.turns old) new (turns_agree told shared db live old new after.turns a) (arrival_stays old new after old.state.streams streams opened next version events issued stopped)
-arrived_agrees told shared db live old new joins ahead a after next version events issued stopped (puts_one n x y there stream state session streams opened) =
-    stays_agrees told shared db live (with_turns new.turns old) new n x y (turns_agree told shared db live old new after.turns a) there stream state session (arrival_stays old new after (put n y old.state.streams) streams opened next version events issued stopped)
-arrived_agrees {D} told shared db live old new joins ahead a after next version events issued stopped (adds_one c streams opened) = elim after.turns [
+pub arrived_agrees : {D : Type 0} (told shared : Bool) (db : D) (live : Lives D) (old new : Seen) → JoinsTogether D told shared → IsAhead old.state → HubAgrees told shared db live old → new.noted ≡ old.noted → TurnsStay old new → StoreAgrees new
+    → (next : new.state.next ≡ old.state.next) (version : new.state.version ≡ old.state.version) (events : new.state.events ≡ old.state.events) → Moves old.state new.state → HubAgrees told shared db live new
+arrived_agrees told shared db live old new joins ahead a noted turns store next version events (keeps_all streams opened) =
+    let mid = turns_agree told shared db live old new turns a in
+    left_agrees told shared db live (with_turns new.turns old) new mid (arrival_moves old new noted old.state.streams streams opened next version events) store
+arrived_agrees told shared db live old new joins ahead a noted turns store next version events (puts_one n x y there stream state streams opened) =
+    moves_agrees told shared db live (with_turns new.turns old) new n x y (turns_agree told shared db live old new turns a) there stream state (arrival_moves old new noted (put n y old.state.streams) streams opened next version events) store
+arrived_agrees {D} told shared db live old new joins ahead a noted turns store next version events (adds_one x named auto streams opened) = elim turns [
   | inl stay ↦ absurd (let same = stay.1 in omega (arith, same, opened))
-  | inr place ↦ joined_agrees told shared db live old new c joins ahead a place after.noted after.store issued stopped next version events streams opened
+  | inr place ↦ joined_agrees told shared db live old new x joins ahead a place noted store next version events named auto streams opened
 ]
+
+-- the store is as it was
+store_arrives : {D : Type 0} (told shared : Bool) (db : D) (live : Lives D) (old new : Seen) → HubAgrees told shared db live old → IsAfter new.state old new → Arrived old.state new.state → StoreAgrees new
+store_arrives told shared db live old new a after h = record {
+  few = omega (arith, h.issued, h.events, a.counts.batons);
+  issued = ap (λ (b : Batons). b.issued) after.store ∙ a.issued ∙ sym h.issued;
+  tied = λ runs. subst (IsTied new.state.streams) (sym after.store) (h.ties old.store a.numbers (a.tied (sym h.stopped ∙ runs)));
+}
+
+as_arrived : {D : Type 0} (told shared : Bool) (db : D) (live : Lives D) (old new : Seen) → JoinsTogether D told shared → IsAhead old.state → HubAgrees told shared db live old → IsAfter new.state old new → Arrived old.state new.state → HubAgrees told shared db live new
+as_arrived told shared db live old new joins ahead a after h = arrived_agrees told shared db live old new joins ahead a after.noted after.turns (store_arrives told shared db live old new a after h) h.next h.version h.events h.moves
 
 -- a text keeps the agreement
 pub text_agrees : {D : Type 0} (told shared : Bool) (db : D) (live : Lives D) (token : Option (List ℕ)) (c : ℕ) (text : List ℕ) (out : Outs) (old new : Seen)
     → JoinsTogether D told shared → IsAhead old.state → HubAgrees told shared db live old → TextSteps token old.state c text out new.state → IsAfter new.state old new → HubAgrees told shared db live new
 text_agrees told shared db live token c text out old new joins ahead a steps after =
     let h = text_arrived token old.state c text out new.state steps in
-    arrived_agrees told shared db live old new joins ahead a after h.next h.version h.events h.issued h.stopped h.moves
+    as_arrived told shared db live old new joins ahead a after h
 
 pub binary_agrees : {D : Type 0} (told shared : Bool) (db : D) (live : Lives D) (c : ℕ) (out : Outs) (old new : Seen)
     → JoinsTogether D told shared → IsAhead old.state → HubAgrees told shared db live old → BinarySteps old.state c out new.state → IsAfter new.state old new → HubAgrees told shared db live new
 binary_agrees told shared db live c out old new joins ahead a steps after =
     let h = binary_arrived old.state c out new.state steps in
-    arrived_agrees told shared db live old new joins ahead a after h.next h.version h.events h.issued h.stopped h.moves
+    as_arrived told shared db live old new joins ahead a after h
 
 pub opened_agrees : {D : Type 0} (told shared : Bool) (db : D) (live : Lives D) (c : ℕ) (closing : Bool) (old new : Seen)
     → JoinsTogether D told shared → IsAhead old.state → HubAgrees told shared db live old → new.state ≡ with_new_conn c closing old.state → IsAfter new.state old new → HubAgrees told shared db live new
 opened_agrees told shared db live c closing old new joins ahead a steps after =
     let h = new_arrived old.state c closing new.state steps in
-    arrived_agrees told shared db live old new joins ahead a after h.next h.version h.events h.issued h.stopped h.moves
+    as_arrived told shared db live old new joins ahead a after h

@@ -32,3 +32,5 @@ pub mod IdLists
 pub mod Counted
 pub mod Tied
 pub mod ExchangePolling
+pub mod Drawing
+pub mod ExchangeArriving

@@ -64,7 +64,7 @@ placed_less n x e es h = rw (less n e.0 h) refl
 pub placed_more : {A : Type 0} (n : ℕ) (x : A) (e : ℕ × A) (es : Numbered A) → e.0 < n → placed n x (e ∷ es) ≡ e ∷ placed n x es
 placed_more n x e es h = rw (more n e.0 h) refl
 
-placed_same : {A : Type 0} (n : ℕ) (x : A) (e : ℕ × A) (es : Numbered A) → n ≡ e.0 → placed n x (e ∷ es) ≡ (e.0, x) ∷ es
+pub placed_same : {A : Type 0} (n : ℕ) (x : A) (e : ℕ × A) (es : Numbered A) → n ≡ e.0 → placed n x (e ∷ es) ≡ (e.0, x) ∷ es
 placed_same n x e es h = rw (equal n e.0 h) refl
 
 -- ---- what was placed

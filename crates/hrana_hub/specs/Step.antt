@@ -169,6 +169,10 @@ ExchangeSteps token s c ask draws out new = ExchangeGoes (route_answer ask) toke
 abbrev pub Comes : Option (List ℕ) → Bool → State → Event → List Entry → Outs → State → Type 0
 Comes token shared s event added out new = MatchBool (is_short out) (Falls shared s event added out new) (Happens token shared s event added out new)
 
+abbrev pub is_exchange : Event → Bool
+is_exchange (Exchange c ask) = true
+is_exchange event = false
+
 -- Words are drawn for exchanges alone, and exchanges add no entry.
 abbrev pub ComesOf : Option (List ℕ) → Bool → State → Event → List Draw → List Entry → Outs → State → Type 0
 ComesOf token shared s (Exchange c ask) draws added out new = (added ≡ []) × ExchangeSteps token s c ask draws out new

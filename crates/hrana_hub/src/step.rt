@@ -5,10 +5,11 @@ ghost use Rattle.hrana_hub.specs.Agrees.{HubAgrees, IsAhead};
 ghost use Rattle.hrana_hub.specs.Drawn.{DrawsFrom};
 ghost use Rattle.hrana_hub.specs.Moments.{LossFrees};
 ghost use Rattle.hrana_hub.specs.State.{with_state};
-ghost use Rattle.hrana_hub.specs.Step.{Step, ComesOf, fits, may_come, counted};
+ghost use Rattle.hrana_hub.specs.Step.{Step, Comes, ComesOf, is_exchange, fits, may_come, counted};
 
 use crate::events::Event;
 use crate::hub::Hub;
+use crate::outs::nothing;
 use engine_core::{Engine, Tokens};
 use http_wire::Outs;
 use stream_task::{a_joined_stream_stands, a_stream_joins};
@@ -20,6 +21,33 @@ impl Hub {
         ensures { self.new ≡ with_state (counted self.old.state) self.old }
     {
         self.events += 1;
+    }
+
+    /// What comes of an event that was counted, and isn't an exchange.
+    fn happen<E: Engine>(&mut self, engine: &mut E, event: Event) -> Outs
+        requires other { is_exchange event ≡ false }
+        requires may { may_come self.old.state event ≡ true }
+        requires ahead { IsAhead self.old.state }
+        requires running { self.old.state.stopped ≡ false }
+        requires agrees { HubAgrees E.told E.SHARED (E.db engine.old) (E.live engine.old) self.old }
+        ensures adds { Adds E.told E.SHARED E.meaning E.db E.live E.faults engine.old engine.new self.old self.new (λ added. Comes self.old.token E.SHARED self.old.state event added result self.new.state) }
+        ensures agrees { HubAgrees E.told E.SHARED (E.db engine.new) (E.live engine.new) self.new }
+        ensures freed { LossFrees event self.old self.new }
+        ensures token { self.new.token ≡ self.old.token }
+        ensures later { E.faults engine.old ≤ E.faults engine.new }
+    {
+        a_stream_joins::<E>();
+        a_joined_stream_stands::<E>();
+        match event {
+            Event::Opened { conn } => self.open(conn),
+            Event::Text { conn, text } => self.text(conn, text.as_slice()),
+            Event::Binary { conn } => self.binary(conn),
+            Event::Exchange { .. } => nothing(),
+            Event::Lost { conn } => self.lose(engine, conn),
+            Event::Moment { at } => self.moment(engine, at),
+            Event::Poll { stream } => self.poll(engine, stream),
+            Event::Stop => self.stop(engine),
+        }
     }
 
     /// What comes of an event that was counted.
@@ -44,14 +72,8 @@ impl Hub {
         a_stream_joins::<E>();
         a_joined_stream_stands::<E>();
         match event {
-            Event::Opened { conn } => self.open(conn),
-            Event::Text { conn, text } => self.text(conn, text.as_slice()),
-            Event::Binary { conn } => self.binary(conn),
             Event::Exchange { conn, ask } => self.exchange(tokens, conn, &ask),
-            Event::Lost { conn } => self.lose(engine, conn),
-            Event::Moment { at } => self.moment(engine, at),
-            Event::Poll { stream } => self.poll(engine, stream),
-            Event::Stop => self.stop(engine),
+            other => self.happen(engine, other),
         }
     }
 
