@@ -80,7 +80,7 @@ hello_arrived false c k s = conn_arrived c (shut k) s
 
 opens_arrived : (o : Option ℕ) (c : ℕ) (k : Conn) (id stream : ℤ) (s : State) → Arrived s (opens o c k id stream s).state
 opens_arrived (Some n) c k id stream s = none_arrived s
-opens_arrived None c k id stream s = by (nat_le MAX_(put n y old.state.streams) (length k.streams))
+opens_arrived None c k id stream s = by (nat_le MAX_STREAMS (length k.streams))
   where
     by : (full : Bool) → Arrived s (opens_unless full c k id stream s).state
     by true = none_arrived s

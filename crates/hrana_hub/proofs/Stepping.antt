@@ -1,13 +1,15 @@
 -- An event is counted, and comes.
-use Rattle.std.proofs.Common.{◌≡◌, ◌<◌, ◌&&◌, ℕ, Bool, true, false, not, nat_lt, List, [], Option, None, Some, MatchBool, refl, sym, ap, subst, arith}
+use Rattle.std.proofs.Common.{◌≡◌, ◌<◌, ◌&&◌, ℕ, Bool, true, false, not, nat_lt, List, [], Option, None, Some, MatchBool, refl, sym, ap, subst, arith, true≢false}
 use Rattle.std.proofs.lemmas.Bool.{ltb-true}
 use Rattle.http_wire.specs.declared.outs.Outs.{Outs}
 use Rattle.serial_order.specs.Serial.{Meaning}
 use Rattle.engine_core.specs.Transactions.{Lives}
 use Rattle.engine_core.specs.declared.statement.BoundStmt.{BoundStmt}
 use Rattle.engine_core.specs.declared.entries.Answer.{Answer}
+use Rattle.engine_core.specs.Draws.{Draw}
+use Rattle.engine_core.specs.declared.entries.Entry.{Entry}
 use Rattle.hrana_hub.specs.declared.events.Event.{Event}
-use Rattle.hrana_hub.specs.declared.events.Event.TheVariants.{Opened, Text, Binary, Lost, Moment, Poll, Stop}
+use Rattle.hrana_hub.specs.declared.events.Event.TheVariants.{Opened, Text, Binary, Exchange, Lost, Moment, Poll, Stop}
 use Rattle.hrana_hub.specs.declared.limits.TheConstants.{MAX_EVENTS}
 use Rattle.hrana_hub.specs.Maps.{at}
 use Rattle.hrana_hub.specs.State.{Conn, State, Seen, with_state}
@@ -15,7 +17,7 @@ use Rattle.hrana_hub.specs.Adds.{Adds}
 use Rattle.hrana_hub.specs.Agrees.{HubAgrees, IsCounted, IsAhead}
 use Rattle.hrana_hub.specs.Arrivals.{nothing, closing, quiet}
 use Rattle.hrana_hub.specs.Moments.{LossFrees}
-use Rattle.hrana_hub.specs.Step.{Step, Comes, Goes, Heard, TextSteps, BinarySteps, is_short, fits, may_come, counted, with_new_conn}
+use Rattle.hrana_hub.specs.Step.{Step, Comes, ComesOf, is_exchange, Goes, Heard, TextSteps, BinarySteps, is_short, fits, may_come, counted, with_new_conn}
 use Rattle.hrana_hub.proofs.Adding.{alike, adds_from}
 use Rattle.hrana_hub.proofs.Agreeing.{same_agrees}
 
@@ -40,6 +42,7 @@ pub comes_counted : (s : State) (event : Event) → may_come (counted s) event �
 comes_counted s (Opened c) = refl
 comes_counted s (Text c text) = refl
 comes_counted s (Binary c) = refl
+comes_counted s (Exchange c ask) = refl
 comes_counted s (Lost c) = refl
 comes_counted s (Moment now) = refl
 comes_counted s (Poll stream) = refl
@@ -54,12 +57,23 @@ counted_agrees told shared db live h a = same_agrees told shared db live h (with
 -- ---- the step
 
 -- what came of the event once it was counted
-pub step_adds : {X D : Type 0} {told shared : Bool} {m : Meaning D BoundStmt Answer} {db : X → D} {live : X → Lives D} {faults : X → ℕ} (engine engine' : X) (old mid new : Seen) (event : Event) (out : Outs) → mid ≡ with_state (counted old.state) old
-    → Adds told shared m db live faults engine engine' mid new (λ added. Comes mid.token shared mid.state event added out new.state) → Adds told shared m db live faults engine engine' old new (λ added. Step old.token shared old.state event added out new.state)
-step_adds {shared = shared} engine engine' old mid new event out is a =
-    adds_from engine engine' old mid new _ (λ added. Step old.token shared old.state event added out new.state) (ap (λ (h : Seen). h.noted.list) is)
+pub step_adds : {X D : Type 0} {told shared : Bool} {m : Meaning D BoundStmt Answer} {db : X → D} {live : X → Lives D} {faults : X → ℕ} (engine engine' : X) (old mid new : Seen) (event : Event) (draws : List Draw) (out : Outs) → mid ≡ with_state (counted old.state) old
+    → Adds told shared m db live faults engine engine' mid new (λ added. ComesOf mid.token shared mid.state event draws added out new.state) → Adds told shared m db live faults engine engine' old new (λ added. Step old.token shared old.state event draws added out new.state)
+step_adds {shared = shared} engine engine' old mid new event draws out is a =
+    adds_from engine engine' old mid new _ (λ added. Step old.token shared old.state event draws added out new.state) (ap (λ (h : Seen). h.noted.list) is)
     (alike old mid (ap (λ (h : Seen). h.state.streams) is) (ap (λ (h : Seen). h.turns) is) (ap (λ (h : Seen). h.noted.next) is))
-    (λ added c. subst (λ (h : Seen). Comes h.token shared h.state event added out new.state) is c) a
+    (λ added c. subst (λ (h : Seen). ComesOf h.token shared h.state event draws added out new.state) is c) a
+
+-- it isn't an exchange: nothing is drawn for it
+pub comes_of : (token : Option (List ℕ)) (shared : Bool) (s : State) (event : Event) (added : List Entry) (out : Outs) (new : State) → is_exchange event ≡ false → Comes token shared s event added out new → ComesOf token shared s event [] added out new
+comes_of token shared s (Opened c) added out new e h = (refl, h)
+comes_of token shared s (Text c text) added out new e h = (refl, h)
+comes_of token shared s (Binary c) added out new e h = (refl, h)
+comes_of token shared s (Exchange c ask) added out new e h = absurd (true≢false e)
+comes_of token shared s (Lost c) added out new e h = (refl, h)
+comes_of token shared s (Moment now) added out new e h = (refl, h)
+comes_of token shared s (Poll stream) added out new e h = (refl, h)
+comes_of token shared s Stop added out new e h = (refl, h)
 
 -- what a loss frees is the same where it was counted
 pub frees_counted : (event : Event) (old mid new : Seen) → mid ≡ with_state (counted old.state) old → LossFrees event mid new → LossFrees event old new
@@ -69,6 +83,7 @@ frees_counted event old mid new is h = by event (subst (λ (s : Seen). LossFrees
     by (Opened c) f = f
     by (Text c text) f = f
     by (Binary c) f = f
+    by (Exchange c ask) f = f
     by (Lost c) f = f
     by (Moment now) f = f
     by (Poll stream) f = f
@@ -95,3 +110,10 @@ binary_gives s new c (Some k) out h = by k.closing h
 
 pub binary_comes : (token : Option (List ℕ)) (shared : Bool) (s new : State) (c : ℕ) (out : Outs) → BinarySteps s c out new → Comes token shared s (Binary c) [] out new
 binary_comes token shared s new c out h = long out _ _ (binary_gives s new c (at c s.conns) out h) h
+
+pub fits_running : (s : State) (event : Event) → fits s event ≡ true → s.stopped ≡ false
+fits_running s event e = by s.stopped (and_left (not s.stopped) (nat_lt s.events MAX_EVENTS) (and_left (not s.stopped && nat_lt s.events MAX_EVENTS) (may_come s event) e))
+  where
+    by : (b : Bool) → not b ≡ true → b ≡ false
+    by false f = refl
+    by true f = absurd (true≢false (sym f))

@@ -2,7 +2,8 @@ use Rattle.std.proofs.Common.{◌∙◌, sym, ap, subst, arith}
 use Rattle.hrana_hub.specs.State.{Seen}
 use Rattle.hrana_hub.specs.Agrees.{HubAgrees, IsAhead}
 use Rattle.hrana_hub.specs.Step.{may_come}
-use Rattle.hrana_hub.proofs.Stepping.{fits_comes, fits_few, comes_counted, counted_ahead, counted_agrees, step_adds, frees_counted}
+use Rattle.hrana_hub.proofs.Drawing.{drawn_as}
+use Rattle.hrana_hub.proofs.Stepping.{fits_comes, fits_few, fits_running, comes_counted, counted_ahead, counted_agrees, step_adds, frees_counted}
 use Rattle.hrana_hub.proofs.hub.Hub.step.Goals as goal
 
 pub count-requires : goal.count-requires
@@ -21,7 +22,10 @@ pub come-requires-clause-agrees : goal.come-requires-clause-agrees
 come-requires-clause-agrees g c = subst (HubAgrees _ _ _ _) (sym c.count.ensures) (counted_agrees _ _ _ _ c.args.self.now c.requires.agrees)
 
 pub returns-clause-adds : goal.returns-clause-adds
-returns-clause-adds g c = step_adds _ _ c.args.self.now c.count.new.self c.come.new.self c.args.event c.come.result c.count.ensures c.come.ensures.adds
+returns-clause-adds g c = drawn_as _ _ _ _ _ _ (λ draws h. step_adds _ _ c.args.self.now c.count.new.self c.come.new.self c.args.event draws c.come.result c.count.ensures h) c.come.ensures.adds
 
 pub returns-clause-freed : goal.returns-clause-freed
 returns-clause-freed g c = frees_counted c.args.event c.args.self.now c.count.new.self c.come.new.self c.count.ensures c.come.ensures.freed
+
+pub come-requires-clause-running : goal.come-requires-clause-running
+come-requires-clause-running g c = ap (λ (h : Seen). h.state.stopped) c.count.ensures ∙ fits_running c.args.self.now.state c.args.event c.requires.fits
