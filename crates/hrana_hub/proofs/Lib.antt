@@ -26,3 +26,4 @@ pub mod IdLists
 pub mod WaitSums
 pub mod Counted
 pub mod Tied
+pub mod Entering

@@ -111,9 +111,8 @@ impl Hub {
         ensures { (x : Stream) → at stream self.old.state.streams ≡ Some x
             → self.new ≡ with_state (with_exchange running.conn stream (with_streams (put stream (in_session (Session.Running running) (asks_these queued x)) self.old.state.streams) self.old.state)) self.old }
     {
-        let conn = running.conn;
+        self.exchanges.begin(running.conn, stream);
         self.run_slot(stream, running, queued);
-        self.exchanges.begin(conn, stream);
     }
 
     /// The exchange begins, with these words. Where nothing is left to poll it is answered at once. Takes no memory.

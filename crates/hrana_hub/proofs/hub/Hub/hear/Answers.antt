@@ -19,16 +19,8 @@ use Rattle.hrana_hub.specs.State.{Stream, State, with_state}
 use Rattle.hrana_hub.specs.Step.{ExchangeSteps}
 use Rattle.hrana_hub.specs.declared.limits.TheConstants.{MAX_CONNECTIONS}
 use Rattle.hrana_hub.specs.declared.sessions.Session.{Session}
-use Rattle.hrana_hub.proofs.exchange_arrivals.queue.Goals as goal
+use Rattle.hrana_hub.proofs.hub.Hub.hear.Goals as goal
 
--- src/exchange_arrivals.rt:68:5
-pub loop-ask-init : goal.loop-ask-init
-loop-ask-init c = ?
-
--- src/exchange_arrivals.rt:68:5
-pub loop-ask-preserved : goal.loop-ask-preserved
-loop-ask-preserved c = ?
-
--- src/exchange_arrivals.rt:63:1
-pub returns : goal.returns
-returns c = ?
+-- src/exchange_arrivals.rt:299:38
+pub pipeline-requires-clause-asked : goal.pipeline-requires-clause-asked
+pipeline-requires-clause-asked g c = ?

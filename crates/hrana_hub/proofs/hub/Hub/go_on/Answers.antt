@@ -19,12 +19,24 @@ use Rattle.hrana_hub.specs.State.{Stream, State, with_state}
 use Rattle.hrana_hub.specs.Step.{ExchangeSteps}
 use Rattle.hrana_hub.specs.declared.limits.TheConstants.{MAX_CONNECTIONS}
 use Rattle.hrana_hub.specs.declared.sessions.Session.{Session}
-use Rattle.hrana_hub.proofs.hub.Hub.run.Goals as goal
+use Rattle.hrana_hub.proofs.hub.Hub.go_on.Goals as goal
 
--- src/exchange_arrivals.rt:116:9
-pub begin-requires-clause-unknown : goal.begin-requires-clause-unknown
-begin-requires-clause-unknown c = ?
+-- src/exchange_arrivals.rt:238:13
+pub returns-in_default-clause-drawn : goal.returns-in_default-clause-drawn
+returns-in_default-clause-drawn g c = ?
 
--- src/exchange_arrivals.rt:116:9
-pub begin-requires-clause-room : goal.begin-requires-clause-room
-begin-requires-clause-room c = ?
+-- src/exchange_arrivals.rt:214:5
+pub returns-in-Live-clause-drawn : goal.returns-in-Live-clause-drawn
+returns-in-Live-clause-drawn g c = ?
+
+-- src/exchange_arrivals.rt:214:5
+pub returns-in-Live-clause-entered : goal.returns-in-Live-clause-entered
+returns-in-Live-clause-entered g c = ?
+
+-- src/exchange_arrivals.rt:214:5
+pub returns-in-Dead-clause-drawn : goal.returns-in-Dead-clause-drawn
+returns-in-Dead-clause-drawn g c = ?
+
+-- src/exchange_arrivals.rt:214:5
+pub returns-in-Dead-clause-entered : goal.returns-in-Dead-clause-entered
+returns-in-Dead-clause-entered g c = ?
