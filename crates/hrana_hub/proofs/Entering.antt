@@ -1,8 +1,6 @@
 -- Exchanges that come in: what they draw, and what they leave.
 use Rattle.std.proofs.Common.{◌≡◌, ◌≢◌, ◌<◌, ◌≤◌, ◌+◌, ◌^◌, min, ℕ, Bool, true, false, cond, List, [], ◌∷◌, ◌++◌, length, filter, Option, None, Some, Result, Ok, Err, refl, sym, ap, ◌∙◌, subst, arith, append-nil, inl, inr}
-use Rattle.std.specs.List.{sum_by}
 use Rattle.std.specs.Map.{values_of}
-use Rattle.std.proofs.lemmas.List.Sums.{length-filter}
 use Rattle.hrana_stmt.specs.declared.codes.Code.{Code}
 use Rattle.stream_requests.specs.declared.asks.Ask.{Ask}
 use Rattle.http_wire.specs.declared.outs.HttpAnswer.{HttpAnswer}
@@ -57,12 +55,13 @@ module _ {T : Type 0} (drawn : T → Option (List Draw)) (faults : T → ℕ) (t
 
 -- ---- how many streams of exchanges there are
 
+one_more : (b : Bool) (x : Stream) (xs : List Stream) (n : ℕ) → length xs ≡ n → length (cond b (x ∷ xs) xs) ≡ cond b 1 0 + n
+one_more true x xs n e = omega arith
+one_more false x xs n e = omega arith
+
 pub sessions_counted : (es : Numbered Stream) → length (filter of_exchanges (values_of es)) ≡ sessions_in es
-sessions_counted es = length-filter of_exchanges (values_of es) ∙ summed es
-  where
-    summed : (es : Numbered Stream) → sum_by (λ x. cond (of_exchanges x) 1 0) (values_of es) ≡ sessions_in es
-    summed [] = refl
-    summed (e ∷ es) = ap (λ n. cond (of_exchanges e.1) 1 0 + n) (summed es)
+sessions_counted [] = refl
+sessions_counted (e ∷ es) = one_more (of_exchanges e.1) e.1 (filter of_exchanges (values_of es)) (sessions_in es) (sessions_counted es)
 
 -- ---- the exchange begins
 

@@ -1,4 +1,4 @@
-use Rattle.std.proofs.Common.{◌≡◌, ◌+◌, ◌∙◌, ℕ, refl, sym, ap}
+use Rattle.std.proofs.Common.{◌≡◌, ◌+◌, ◌∙◌, ℕ, None, refl, sym, ap}
 use Rattle.txn_table.specs.Turns.{with_place}
 use Rattle.stream_task.specs.Together.{numbered}
 use Rattle.hrana_hub.specs.Maps.{Numbered, at, without}
@@ -10,4 +10,13 @@ use Rattle.hrana_hub.proofs.MapLemmas.{without_placed}
 use Rattle.hrana_hub.proofs.hub.Hub.make_session.Goals as goal
 
 pub returns-then-is_err-clause-err : goal.returns-then-is_err-clause-err
-returns-then-is_err-clause-err c = ?
+returns-then-is_err-clause-err c =
+    let h = c.self.inside in
+    let n = c.args.number in
+    let next : n ≡ h.opened + 1 = c.requires.next ∙ sym (ap (λ (s : Seen). s.state.opened + 1) c.self.view_is) in
+    let free : at n h.slots.entries ≡ None = ap (λ (s : Seen). at n s.state.streams) c.self.view_is ∙ c.requires.fresh in
+    let streams : c.drop_slot.new.slots.entries ≡ h.slots.entries =
+    c.drop_slot.ensures ∙ (ap (λ (es : Numbered Stream). without n es) c.in_ok-add_slot.ensures.ok ∙ without_placed n c.in_ok-slot.slot h.slots.entries free) in
+    let turns = c.in_ok-reserve_stream.ensures.ok ∙ ap (λ (k : ℕ). with_place h.turns (numbered k)) next in
+    let store : c.reserve_stream-2.new.self ≡ h.store = on_err_at c.reserve_stream-2.result (sym c.if-is_err.ensures.value) c.reserve_stream-2.ensures.err in
+    only_turn c.drop_slot.new.slots.entries c.reserve_stream.new.self c.reserve_stream-2.new.self (the_view h) c.args.self.now c.self.view_is refl streams turns store
