@@ -27,3 +27,4 @@ pub mod WaitSums
 pub mod Counted
 pub mod Tied
 pub mod Entering
+pub mod Starting

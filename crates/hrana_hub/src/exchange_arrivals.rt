@@ -179,6 +179,7 @@ impl Hub {
         tokens: &mut T,
         prepared: Prepared,
     ) -> Result<Outs, NoMemory>
+        requires prepared { (body : PipelineBody) × IsPreparedFor body prepared }
         requires few { (self.old.state.opened < 2 ^ 62) × (self.old.state.issued < 2 ^ 62) }
         requires fresh { at (self.old.state.opened + 1) self.old.state.streams ≡ None }
         requires store { StoreFits self.old }
@@ -216,6 +217,7 @@ impl Hub {
         prepared: Prepared,
         baton: &Txt,
     ) -> Result<Outs, NoMemory>
+        requires prepared { (body : PipelineBody) × IsPreparedFor body prepared }
         requires few { (self.old.state.opened < 2 ^ 62) × (self.old.state.issued < 2 ^ 62) }
         requires fresh { at (self.old.state.opened + 1) self.old.state.streams ≡ None }
         requires store { StoreFits self.old }

@@ -1,11 +1,37 @@
-use Rattle.std.proofs.Common.{◌≡◌}
+use Rattle.std.proofs.Common.{◌≡◌, ◌∙◌, Result, List, ℕ, None, nat_le, false, refl, sym, ap, subst, rules}
+use Rattle.engine_core.specs.Draws.{draw_of, words, failed}
+use Rattle.engine_core.specs.declared.outside.Failed.{Failed}
+use Rattle.pipeline_body.specs.Exchanges.{begins, asked_in}
+use Rattle.stream_task.specs.Together.{numbered}
+use Rattle.baton_store.specs.Batons.{Batons}
+use Rattle.hrana_hub.specs.declared.limits.TheConstants.{MAX_SESSIONS}
+use Rattle.hrana_hub.specs.ExchangeArrived.{HasSession, StoreFits, Entered, GoesPrepared, Started}
+use Rattle.hrana_hub.specs.Exchanges.{GoesDrawn, sessions_in}
+use Rattle.hrana_hub.specs.Maps.{at}
+use Rattle.hrana_hub.specs.State.{Seen}
+use Rattle.hrana_hub.specs.contracts.hub.Hub.{the_view}
+use Rattle.hrana_hub.proofs.Entering.{draws_one}
+use Rattle.hrana_hub.proofs.Starting.{session_begins, session_reached, session_goes, entered_by, undone_state, undone_enters, given_back, refused, opened_at, next_number, next_session}
 use Rattle.hrana_hub.proofs.hub.Hub.begin_session.Goals as goal
 
 pub returns-in_default-clause-drawn : goal.returns-in_default-clause-drawn
-returns-in_default-clause-drawn g c = ?
+returns-in_default-clause-drawn g c =
+    let old = c.args.self.now in
+    let p = c.args.prepared in
+    let undone = subst (λ (h : Seen). c.drop_session.new.self ≡ given_back (next_number h) c.make_session.new.self) c.self.view_is c.drop_session.ensures in
+    let has : HasSession p.conn old c.make_session.new.self = c.in_ok-make_session.ensures.ok in
+    draws_one _ _ _ _ _ c.words.result c.words.ensures.draw c.words.ensures.cause (λ body ready none. record {
+      draw = draw_of c.words.result;
+      one = refl;
+      goes = subst (λ (r : Result (List ℕ) Failed). GoesDrawn (draw_of r) body p.conn p.close old.state c.answers_with-in_default.result c.drop_session.new.self.state) (sym c.in_default.is)
+          (refused p.conn p.no_token body p.close old.state c.drop_session.new.self.state c.answers_with-in_default.result ready.no_token c.answers_with-in_default.ensures
+          (undone_state p.conn old c.make_session.new.self c.drop_session.new.self c.requires.fresh has undone));
+    })
 
 pub returns-in_default-clause-entered : goal.returns-in_default-clause-entered
-returns-in_default-clause-entered g c = ?
+returns-in_default-clause-entered g c =
+    let undone = subst (λ (h : Seen). c.drop_session.new.self ≡ given_back (next_number h) c.make_session.new.self) c.self.view_is c.drop_session.ensures in
+    undone_enters c.args.prepared.conn c.args.self.now c.make_session.new.self c.drop_session.new.self c.requires.fresh c.in_ok-make_session.ensures.ok undone c.requires.store
 
 pub start-requires-clause-place : goal.start-requires-clause-place
 start-requires-clause-place g c = ?
