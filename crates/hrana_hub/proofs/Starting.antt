@@ -1,7 +1,8 @@
 -- A stream whose exchange begins: what it leaves of the store of batons, and how it went.
-use Rattle.std.proofs.Common.{◌≡◌, ◌≢◌, ◌+◌, ℕ, Bool, true, false, not, cond, List, [], ◌∷◌, Option, None, Some, Contains, refl, sym, ap, ◌∙◌, subst, inl, inr, nat_le}
+use Rattle.std.proofs.Common.{◌≡◌, ◌≢◌, ◌+◌, ℕ, Bool, true, false, not, cond, List, [], ◌∷◌, Option, None, Some, Contains, refl, sym, ap, ◌∙◌, subst, inl, inr, nat_le, arith, ◌<◌}
 use Rattle.std.proofs.lemmas.Bool.{ne_eqb}
-use Rattle.std.proofs.lemmas.List.Elements.{Contains-append_left}
+use Rattle.std.proofs.lemmas.Bool.Decides.{nat_tests}
+use Rattle.std.proofs.lemmas.List.Elements.{Contains-append_left, Contains-push}
 use Rattle.hrana_value.specs.declared.StreamNo.{StreamNo}
 use Rattle.hrana_stmt.specs.declared.codes.Code.TheVariants as code
 use Rattle.stream_requests.specs.declared.asks.Ask.{Ask}
@@ -104,7 +105,23 @@ next_session c h = fresh_session h.state.now c (next_number h)
 abbrev pub opened_at : ℕ → Seen → Seen
 opened_at n h = with_state (record h.state { opened = n }) h
 
-module _ (c : ℕ) (old mid : Seen) (free : at (next_number old) old.state.streams ≡ None) (fits : StoreFits old) (has : HasSession c old mid) where
+-- there are places for it
+pub record IsMade (c : ℕ) (old mid : Seen) : Type 0 where
+  pub free : at (next_number old) old.state.streams ≡ None
+  pub fits : StoreFits old
+  pub has : HasSession c old mid
+
+pub is_made : (c : ℕ) (old old' mid mid' : Seen) → old ≡ old' → mid ≡ mid' → at (next_number old') old'.state.streams ≡ None → StoreFits old' → HasSession c old' mid' → IsMade c old mid
+is_made c old old' mid mid' same made free fits has = record {
+  free = subst (λ (h : Seen). at (next_number h) h.state.streams ≡ None) (sym same) free;
+  fits = subst (λ (h : Seen). StoreFits h) (sym same) fits;
+  has = subst (λ (h : Seen). HasSession c h mid) (sym same) (subst (λ (h : Seen). HasSession c old' h) (sym made) has);
+}
+
+pub few_sessions : (n k : ℕ) → n ≡ k → n < MAX_SESSIONS → nat_le MAX_SESSIONS k ≡ false
+few_sessions n k same few = rw (← same) (grind (arith, nat_tests))
+
+module _ (c : ℕ) (old mid : Seen) (made : IsMade c old mid) where
   abbrev number : ℕ
   number = next_number old
 
@@ -112,23 +129,26 @@ module _ (c : ℕ) (old mid : Seen) (free : at (next_number old) old.state.strea
   opened_one = next_session c old
 
   mid_known : at number mid.state.streams ≡ Some opened_one
-  mid_known = ap (λ (s : State). at number s.streams) has.state ∙ at_placed number opened_one old.state.streams
+  mid_known = ap (λ (s : State). at number s.streams) made.has.state ∙ at_placed number opened_one old.state.streams
 
   mid_tied : IsTied mid.state.streams mid.store
   mid_tied =
-      tied_same_streams (placed number opened_one old.state.streams) mid.state.streams mid.store (ap (λ (s : State). s.streams) has.state)
-      (tied_same (placed number opened_one old.state.streams) (with_place old.store (numbered number)) mid.store has.store (tied_opens number opened_one old.state.streams old.store free refl fits.tied))
+      tied_same_streams (placed number opened_one old.state.streams) mid.state.streams mid.store (ap (λ (s : State). s.streams) made.has.state)
+      (tied_same (placed number opened_one old.state.streams) (with_place old.store (numbered number)) mid.store made.has.store (tied_opens number opened_one old.state.streams old.store made.free refl made.fits.tied))
 
   pub session_begins : Begins (opened_at number mid) number opened_one
   session_begins = record {
     known = mid_known;
-    issued = ap (λ (b : Batons). b.issued) has.store ∙ (fits.issued ∙ sym (ap (λ (s : State). s.issued) has.state));
-    none = subst (λ (b : Batons). HasNone b (numbered number)) (sym has.store) (fresh_has_none number old.state.streams old.store free fits.tied);
+    issued = ap (λ (b : Batons). b.issued) made.has.store ∙ (made.fits.issued ∙ sym (ap (λ (s : State). s.issued) made.has.state));
+    none = subst (λ (b : Batons). HasNone b (numbered number)) (sym made.has.store) (fresh_has_none number old.state.streams old.store made.free made.fits.tied);
     free = λ y awaits. tied_rests number opened_one y mid.state.streams mid.store mid_known (rests_awaits_none opened_one.session refl) awaits refl mid_tied;
   }
 
+  pub session_place : Contains mid.store.reserved (numbered number)
+  session_place = subst (λ (b : Batons). Contains b.reserved (numbered number)) (sym made.has.store) (Contains-push old.store.reserved (numbered number))
+
   pub session_reached : IsReached old (opened_at number mid)
-  session_reached = record { token = has.token; noted = has.noted; turns = inr has.turns }
+  session_reached = record { token = made.has.token; noted = made.has.noted; turns = inr made.has.turns }
 
   pub session_goes : (body : PipelineBody) (drawn : List ℕ) (close : Bool) (out : Outs) (new : Seen) → body.baton ≡ None → nat_le MAX_SESSIONS (sessions_in old.state.streams) ≡ false
       → Started (opened_at number mid) number opened_one (asked_in body.asks) (record { conn = c; words = drawn; close = close; exchange = begins body.asks }) out new → GoesDrawn (words drawn) body c close old.state out new.state
@@ -136,7 +156,7 @@ module _ (c : ℕ) (old mid : Seen) (free : at (next_number old) old.state.strea
       let s = old.state in
       let asks = asked_in body.asks in
       let e : Exchange = record { conn = c; words = drawn; close = close; exchange = begins body.asks } in
-      let same : (opened_at number mid).state ≡ with_session c s = ap (λ (t : State). record t { opened = number }) has.state in
+      let same : (opened_at number mid).state ≡ with_session c s = ap (λ (t : State). record t { opened = number }) made.has.state in
       let opens : Does (opens_unless false asks e s) out new.state = record {
         given = started.given ∙ ap (λ (t : State). (starts number opened_one asks e t).given) same;
         left = started.left ∙ ap (λ (t : State). (starts number opened_one asks e t).state) same;
