@@ -1,5 +1,5 @@
 -- What a step does to the state, by the kind of the event.
-use Rattle.std.proofs.Common.{◌≡◌, ◌≤◌, ◌<◌, ◌+◌, ◌&&◌, ◌||◌, ℕ, ℤ, Bool, true, false, not, cond, nat_eq, nat_lt, nat_le, List, [], ◌∷◌, ◌++◌, length, Option, None, Some, Result, Ok, Err, MatchBool, refl, sym, ap, ◌∙◌, subst, arith, inl, inr, filter, int_eq}
+use Rattle.std.proofs.Common.{◌≡◌, ◌≤◌, ◌<◌, ◌+◌, ◌&&◌, ◌||◌, ℕ, ℤ, Bool, true, false, not, cond, nat_eq, nat_lt, nat_le, List, [], ◌∷◌, ◌++◌, length, Option, None, Some, is_some, Result, Ok, Err, MatchBool, refl, sym, ap, ◌∙◌, subst, arith, inl, inr, filter, int_eq}
 use Rattle.std.proofs.lemmas.List.Sums.{length-filter, count_by-le-length}
 use Rattle.std.proofs.lemmas.Bool.{ltb-true, ltb-false, leb-false, and_parts, or_cases, false≢true}
 use Rattle.hrana_value.specs.declared.StreamNo.{StreamNo}
@@ -20,6 +20,13 @@ use Rattle.ws_messages.specs.declared.messages.WsRequest.{WsRequest}
 use Rattle.ws_messages.specs.declared.messages.WsRequest.TheVariants as request
 use Rattle.http_wire.specs.declared.outs.Outs.{Outs}
 use Rattle.http_wire.specs.declared.limits.TheConstants.{MAX_BODY_BYTES}
+use Rattle.http_wire.specs.declared.asks.HttpAsk.{HttpAsk}
+use Rattle.http_wire.specs.declared.outs.HttpAnswer.{HttpAnswer}
+use Rattle.pipeline_body.specs.Exchanges.{route_answer, begins, asked_in}
+use Rattle.pipeline_body.specs.declared.bodies.PipelineBody.{PipelineBody}
+use Rattle.pipeline_body.specs.declared.exchange.Asked.{Asked}
+use Rattle.pipeline_body.specs.declared.exchange.Asked.TheVariants.{Answered, Pipeline}
+use Rattle.engine_core.specs.Draws.{Draw, words, failed}
 use Rattle.engine_core.specs.declared.entries.Entry.{Entry}
 use Rattle.engine_core.specs.declared.entries.Undo.TheVariants as undo
 use Rattle.stream_task.specs.Checks.{stored_text}
@@ -28,19 +35,25 @@ use Rattle.stream_task.specs.Polls.{is_waiting}
 use Rattle.stream_task.specs.declared.texts.StoredText.{StoredText}
 use Rattle.stream_task.specs.declared.work.Work.{Work}
 use Rattle.hrana_hub.specs.declared.events.Event.{Event}
-use Rattle.hrana_hub.specs.declared.events.Event.TheVariants.{Opened, Text, Binary, Lost, Moment, Poll, Stop}
-use Rattle.hrana_hub.specs.declared.limits.TheConstants.{MAX_CONNECTIONS, MAX_STREAMS, MAX_OUTSTANDING, MAX_EVENTS}
+use Rattle.hrana_hub.specs.declared.events.Event.TheVariants.{Opened, Text, Binary, Exchange, Lost, Moment, Poll, Stop}
+use Rattle.hrana_hub.specs.declared.limits.TheConstants.{MAX_CONNECTIONS, MAX_SESSIONS, MAX_STREAMS, MAX_OUTSTANDING, MAX_EVENTS}
 use Rattle.stream_task.specs.declared.limits.TheConstants.{MAX_STORED_TEXTS, MAX_STORED_BYTES}
 use Rattle.stream_task.specs.Texts.{stored_bytes, is_full, without_text}
+use Rattle.hrana_hub.specs.declared.sessions.Running.{Running as Runs}
+use Rattle.hrana_hub.specs.declared.sessions.Session.{Session}
+use Rattle.hrana_hub.specs.declared.sessions.Session.TheVariants.{Resting, Running}
 use Rattle.hrana_hub.specs.Maps.{at, id_at}
-use Rattle.hrana_hub.specs.State.{Conn, Stream, State}
+use Rattle.hrana_hub.specs.State.{Conn, Stream, State, of_exchanges}
 use Rattle.hrana_hub.specs.Texts.{put_text, put_stmt, put_steps, put_ask, as_execute, as_batch, as_sequence}
 use Rattle.hrana_hub.specs.Arrivals.{Went, quiet, nothing, accepts, on_hello, greeted, shut, with_texts, with_conn, closing, opens, opens_unless, with_stream, unopened, asks, asks_at, queues, with_request, stores, stores_unless, on_request, on_numbered, if_greeted, on_answer}
 use Rattle.hrana_hub.specs.Polled.{Polled, PollFell}
 use Rattle.hrana_hub.specs.Ended.{ends_of, without_conn, all_ends, at_its_end}
+use Rattle.hrana_hub.specs.Exchanges.{SessionPolled, SessionFell, fresh_session, with_session, sessions_in, starts, opens_unless as session_opens, Does, IsHeard, GoesBy, GoesDrawn, GoesAsked}
 use Rattle.hrana_hub.specs.Moments.{expiries, at_moment}
-use Rattle.hrana_hub.specs.Step.{Step, Falls, Happens, Goes, ReadText, OpenText, Heard, PolledAt, LostAt, MomentAt, TextFell, PollFellAt, PollFellOn, is_short, counted, with_new_conn, has_room, may_send, is_unknown, may_come, fits}
+use Rattle.hrana_hub.specs.Step.{Step, ComesOf, Falls, Happens, Goes, ReadText, OpenText, Heard, PolledBy, PolledAt, ExchangeLost, LostAt, MomentAt, TextFell, PollFellAt, PollFellBy, PollFellOn, ExchangeFell, ExchangeGoes, is_short, counted, with_new_conn, has_room, may_send, is_unknown, is_free, is_new, may_open, may_come, fits}
 use Rattle.hrana_hub.specs.Stories.{told_by, text_in}
+use Rattle.hrana_hub.proofs.Standing.{Kept}
+use Rattle.hrana_hub.proofs.Touching.{Adding, arrives, polled, lost, Touches, Stands, stands_known, stands_fresh, starts_silent, starts_touches, session_polled_touches, session_fell_touches, session_polled_silent, lost_touches}
 
 -- ---- the kinds of changes
 
@@ -67,34 +80,37 @@ IsSilent event out = (n : ℕ) → told_by n event out ≡ []
 
 pub data Change (shared : Bool) (s : State) (added : List Entry) (out : Outs) (new : State) : Event → Type 0 where
   rests : (event : Event) → added ≡ [] → IsSilent event out → new ≡ s → Change shared s added out new event
-  comes : (c : ℕ) (closing : Bool) → added ≡ [] → at c s.conns ≡ None → length s.conns < MAX_CONNECTIONS → new ≡ with_new_conn c closing s → Change shared s added out new (Opened c)
+  comes : (c : ℕ) (closing : Bool) → added ≡ [] → at c s.conns ≡ None → length s.conns + length s.exchanges < MAX_CONNECTIONS → new ≡ with_new_conn c closing s → Change shared s added out new (Opened c)
   marks : (event : Event) (c : ℕ) (k k' : Conn) → added ≡ [] → IsSilent event out → IsOpen s c k → IsMarked k k' → new ≡ with_conn c k' s → Change shared s added out new event
   joins : (c : ℕ) (text : List ℕ) (k : Conn) (id : ℤ) → added ≡ [] → IsOpen s c k → id_at id k.ids ≡ None → length k.streams < MAX_STREAMS → new ≡ with_stream c k id s → Change shared s added out new (Text c text)
   asks_for : (c : ℕ) (text : List ℕ) (k : Conn) (stream : ℤ) (n : ℕ) (x : Stream) (id : ℤ) (what : Ask) (w : Work) → added ≡ [] → IsOpen s c k → k.outstanding < MAX_OUTSTANDING → id_at stream k.ids ≡ Some n → at n s.streams ≡ Some x → work_of what ≡ Some w
       → new ≡ with_request c k stream n x id what s → Change shared s added out new (Text c text)
-  polls : (stream : StreamNo) (x : Stream) (k : Conn) → at stream.0 s.streams ≡ Some x → is_waiting x.task.asks ≡ true → IsOpen s x.conn k → Polled shared s stream.0 x.conn x k added out new → Change shared s added out new (Poll stream)
-  falls : (stream : StreamNo) (x : Stream) (k : Conn) → at stream.0 s.streams ≡ Some x → IsOpen s x.conn k → PollFell shared s stream.0 x.conn x k added out new → Change shared s added out new (Poll stream)
+  polls : (stream : StreamNo) (x : Stream) (k : Conn) → at stream.0 s.streams ≡ Some x → of_exchanges x ≡ false → is_waiting x.task.asks ≡ true → IsOpen s x.conn k → Polled shared s stream.0 x.conn x k added out new → Change shared s added out new (Poll stream)
+  falls : (stream : StreamNo) (x : Stream) (k : Conn) → at stream.0 s.streams ≡ Some x → of_exchanges x ≡ false → IsOpen s x.conn k → PollFell shared s stream.0 x.conn x k added out new → Change shared s added out new (Poll stream)
+  -- an exchange, a poll of its stream, or its loss
+  touches : (event : Event) (n : ℕ) → Adding shared s n added new event → IsSilent event out → s.opened ≤ new.opened → (Kept s → Touches shared s n new) → Change shared s added out new event
   loses : (c : ℕ) (k : Conn) → at c s.conns ≡ Some k → added ≡ ends_of undo.Lost k.streams s.streams → new ≡ without_conn c k s → Change shared s added out new (Lost c)
   expires : (moment : ℕ) → added ≡ expiries moment s.streams → new ≡ at_moment moment s → Change shared s added out new (Moment moment)
   ends : added ≡ all_ends undo.Stop s.streams → new ≡ at_its_end s → Change shared s added out new Stop
 
 -- ---- what is silent
 
-silent_nothing : (event : Event) → IsSilent event nothing
-silent_nothing (Opened c) n = refl
-silent_nothing (Text c text) n = refl
-silent_nothing (Binary c) n = refl
-silent_nothing (Lost c) n = refl
-silent_nothing (Moment moment) n = refl
-silent_nothing Stop n = refl
-silent_nothing (Poll stream) n = by (nat_eq stream.0 n)
+silent_texts : (event : Event) (out : Outs) → text_in out.out ≡ [] → IsSilent event out
+silent_texts (Opened c) out e n = refl
+silent_texts (Text c text) out e n = refl
+silent_texts (Binary c) out e n = refl
+silent_texts (Exchange c ask) out e n = refl
+silent_texts (Lost c) out e n = refl
+silent_texts (Moment moment) out e n = refl
+silent_texts Stop out e n = refl
+silent_texts (Poll stream) out e n = ap (λ l. cond (nat_eq stream.0 n) l []) e ∙ by (nat_eq stream.0 n)
   where
-    by : (b : Bool) → cond b (text_in None) [] ≡ []
+    by : (b : Bool) → ◌≡◌ {A = List (List ℕ)} (cond b [] []) []
     by true = refl
     by false = refl
 
 silent_as : (event : Event) (out : Outs) → out ≡ nothing → IsSilent event out
-silent_as event out e = subst (λ o. IsSilent event o) (sym e) (silent_nothing event)
+silent_as event out e = silent_texts event out (ap (λ (o : Outs). text_in o.out) e)
 
 stays : (shared : Bool) (s : State) (added : List Entry) (out : Outs) (new : State) (event : Event) → Goes (quiet s) added out new → Change shared s added out new event
 stays shared s added out new event g = rests event g.none (silent_as event out g.given) g.left
@@ -275,6 +291,22 @@ unknown : (o : Option Conn) → is_unknown o ≡ true → o ≡ None
 unknown None e = refl
 unknown (Some k) e = absurd (cc)
 
+free : (o : Option ℕ) → is_free o ≡ true → o ≡ None
+free None e = refl
+free (Some n) e = absurd (cc)
+
+-- one more connection may be known
+record MayOpen (s : State) (c : ℕ) : Type 0 where
+  unknown : at c s.conns ≡ None
+  free : at c s.exchanges ≡ None
+  few : length s.conns + length s.exchanges < MAX_CONNECTIONS
+
+opens_may : (s : State) (c : ℕ) → may_open s c ≡ true → MayOpen s c
+opens_may s c may =
+    let parts = and_parts (nat_lt 0 c && is_new s c) (nat_lt (length s.conns + length s.exchanges) MAX_CONNECTIONS) may in
+    let own = and_parts (is_unknown (at c s.conns)) (is_free (at c s.exchanges)) (and_parts (nat_lt 0 c) (is_new s c) parts.0).1 in
+    record { unknown = unknown (at c s.conns) own.0; free = free (at c s.exchanges) own.1; few = ltb-true (length s.conns + length s.exchanges) MAX_CONNECTIONS parts.1 }
+
 room : (k : Conn) → k.closing ≡ false → has_room k ≡ true → k.outstanding < MAX_OUTSTANDING
 room k heard e = elim (or_cases k.closing (nat_lt k.outstanding MAX_OUTSTANDING) e) [
   | inl shut ↦ absurd (false≢true (sym heard ∙ shut))
@@ -296,10 +328,7 @@ module _ (shared : Bool) (s : State) (added : List Entry) (out : Outs) (new : St
       by false f g = does k (record { known = e; heard = f }) g
 
   opened_changes : (c : ℕ) (closing : Bool) → may_come s (Opened c) ≡ true → added ≡ [] → new ≡ with_new_conn c closing s → Changes (Opened c)
-  opened_changes c closing may none left =
-      let parts = and_parts (nat_lt 0 c && is_unknown (at c s.conns)) (nat_lt (length s.conns) MAX_CONNECTIONS) may in
-      let own = and_parts (nat_lt 0 c) (is_unknown (at c s.conns)) parts.0 in
-      comes c closing none (unknown (at c s.conns) own.1) (ltb-true (length s.conns) MAX_CONNECTIONS parts.1) left
+  opened_changes c closing may none left = (let h = opens_may s c may in comes c closing none h.unknown h.few left)
 
   text_changes : (token : Option (List ℕ)) (c : ℕ) (text : List ℕ) → may_come s (Text c text) ≡ true → Heard s (at c s.conns) (λ k. OpenText token s c k text added out new) added out new → Changes (Text c text)
   text_changes token c text may h = heard_changes (Text c text) c (at c s.conns) (λ k. OpenText token s c k text added out new) refl
@@ -313,24 +342,49 @@ module _ (shared : Bool) (s : State) (added : List Entry) (out : Outs) (new : St
   binary_changes c h = heard_changes (Binary c) c (at c s.conns) (λ k. Goes (closing c k None 1003 s) added out new) refl
       (λ k heard g. marks (Binary c) c k (shut k) g.none (λ n. refl) heard (shut_marked k) g.left) h
 
+  session_changes : (stream : StreamNo) (x : Stream) (e : Runs) → at stream.0 s.streams ≡ Some x → of_exchanges x ≡ true → SessionPolled shared s stream.0 x e added out new → Changes (Poll stream)
+  session_changes stream x e known is p =
+      let silent = session_polled_silent shared s stream.0 x e added out new p in
+      touches (Poll stream) stream.0 (polled stream x p.by p.entry p.result p.task refl known p.polls p.one silent.next) (silent_texts (Poll stream) out silent.texts) (omega (arith, silent.opened)) (session_polled_touches shared s stream.0 x e added out new known is p)
+
+  session_falls : (stream : StreamNo) (x : Stream) (e : Runs) → at stream.0 s.streams ≡ Some x → of_exchanges x ≡ true → SessionFell shared s stream.0 x e added out new → Changes (Poll stream)
+  session_falls stream x e known is p =
+      touches (Poll stream) stream.0 (polled stream x p.by p.entry p.result p.task refl known p.polls p.one (ap (λ (t : State). t.next) p.left)) (silent_texts (Poll stream) out (ap (λ (o : Outs). text_in o.out) p.given)) (omega (arith, ap (λ (t : State). t.opened) p.left))
+      (session_fell_touches shared s stream.0 x e added out new known is p)
+
+  poll_by : (stream : StreamNo) (x : Stream) (o : Option Session) → at stream.0 s.streams ≡ Some x → x.session ≡ o → is_waiting x.task.asks ≡ true → PolledBy o shared s stream.0 x added out new → Changes (Poll stream)
+  poll_by stream x None e own f h = heard_changes (Poll stream) x.conn (at x.conn s.conns) (λ k. Polled shared s stream.0 x.conn x k added out new) refl (λ k heard p. polls stream x k e (ap is_some own) f heard p) h
+  poll_by stream x (Some (Resting baton)) e own f h = stays shared s added out new (Poll stream) h
+  poll_by stream x (Some (Running r)) e own f h = session_changes stream x r e (ap is_some own) h
+
   poll_changes : (stream : StreamNo) (o : Option Stream) → at stream.0 s.streams ≡ o → PolledAt shared s stream.0 o added out new → Changes (Poll stream)
   poll_changes stream None e h = stays shared s added out new (Poll stream) h
   poll_changes stream (Some x) e h = by (is_waiting x.task.asks) refl h
     where
-      by : (b : Bool) → is_waiting x.task.asks ≡ b → MatchBool b (Heard s (at x.conn s.conns) (λ k. Polled shared s stream.0 x.conn x k added out new) added out new) (Goes (quiet s) added out new) → Changes (Poll stream)
-      by true f g = heard_changes (Poll stream) x.conn (at x.conn s.conns) (λ k. Polled shared s stream.0 x.conn x k added out new) refl (λ k heard p. polls stream x k e f heard p) g
+      by : (b : Bool) → is_waiting x.task.asks ≡ b → MatchBool b (PolledBy x.session shared s stream.0 x added out new) (Goes (quiet s) added out new) → Changes (Poll stream)
+      by true f g = poll_by stream x x.session e refl f g
       by false f g = stays shared s added out new (Poll stream) g
 
-  poll_falls_on : (stream : StreamNo) (x : Stream) (o : Option Conn) → at stream.0 s.streams ≡ Some x → at x.conn s.conns ≡ o → PollFellOn shared s stream.0 x o added out new → Changes (Poll stream)
-  poll_falls_on stream x None e f h = absurd h
-  poll_falls_on stream x (Some k) e f h = falls stream x k e (record { known = f; heard = h.0 }) h.1
+  poll_falls_on : (stream : StreamNo) (x : Stream) (o : Option Conn) → at stream.0 s.streams ≡ Some x → of_exchanges x ≡ false → at x.conn s.conns ≡ o → PollFellOn shared s stream.0 x o added out new → Changes (Poll stream)
+  poll_falls_on stream x None e own f h = absurd h
+  poll_falls_on stream x (Some k) e own f h = falls stream x k e own (record { known = f; heard = h.0 }) h.1
+
+  poll_falls_by : (stream : StreamNo) (x : Stream) (o : Option Session) → at stream.0 s.streams ≡ Some x → x.session ≡ o → PollFellBy o shared s stream.0 x added out new → Changes (Poll stream)
+  poll_falls_by stream x None e own h = poll_falls_on stream x (at x.conn s.conns) e (ap is_some own) refl h
+  poll_falls_by stream x (Some (Resting baton)) e own h = absurd h
+  poll_falls_by stream x (Some (Running r)) e own h = session_falls stream x r e (ap is_some own) h
 
   poll_falls : (stream : StreamNo) (o : Option Stream) → at stream.0 s.streams ≡ o → PollFellAt shared s stream.0 o added out new → Changes (Poll stream)
   poll_falls stream None e h = absurd h
-  poll_falls stream (Some x) e h = poll_falls_on stream x (at x.conn s.conns) e refl h.1
+  poll_falls stream (Some x) e h = poll_falls_by stream x x.session e refl h.1
+
+  exchange_lost : (c : ℕ) (o : Option ℕ) → at c s.exchanges ≡ o → ExchangeLost s c o added out new → Changes (Lost c)
+  exchange_lost c None e h = stays shared s added out new (Lost c) h
+  exchange_lost c (Some n) e h =
+      touches (Lost c) n (lost c h.0 (ap (λ (t : State). t.next) h.2)) (λ m. refl) (omega (arith, ap (λ (t : State). t.opened) h.2)) (λ kept. subst (Touches shared s n) (sym h.2) (lost_touches shared s c n e kept))
 
   lost_changes : (c : ℕ) (o : Option Conn) → at c s.conns ≡ o → LostAt s c o added out new → Changes (Lost c)
-  lost_changes c None e h = stays shared s added out new (Lost c) h
+  lost_changes c None e h = exchange_lost c (at c s.exchanges) refl h
   lost_changes c (Some k) e h = loses c k e h.0 h.2
 
   moment_changes : (moment : ℕ) → MomentAt s moment added out new → Changes (Moment moment)
@@ -344,6 +398,7 @@ module _ (shared : Bool) (s : State) (added : List Entry) (out : Outs) (new : St
   happens token (Opened c) may h = opened_changes c false may h.none h.left
   happens token (Text c text) may h = text_changes token c text may h
   happens token (Binary c) may h = binary_changes c h
+  happens token (Exchange c ask) may h = absurd h
   happens token (Poll stream) may h = poll_changes stream (at stream.0 s.streams) refl h
   happens token (Lost c) may h = lost_changes c (at c s.conns) refl h
   happens token (Moment moment) may h = moment_changes moment h
@@ -353,6 +408,7 @@ module _ (shared : Bool) (s : State) (added : List Entry) (out : Outs) (new : St
   falls_short (Opened c) may h = opened_changes c true may h.0 h.2
   falls_short (Text c text) may h = text_falls c (at c s.conns) text refl h
   falls_short (Binary c) may h = absurd h
+  falls_short (Exchange c ask) may h = absurd h
   falls_short (Poll stream) may h = poll_falls stream (at stream.0 s.streams) refl h
   falls_short (Lost c) may h = absurd h
   falls_short (Moment moment) may h = absurd h
@@ -362,17 +418,68 @@ module _ (shared : Bool) (s : State) (added : List Entry) (out : Outs) (new : St
   comes_changes token event true may h = falls_short event may h
   comes_changes token event false may h = happens token event may h
 
+-- ---- an exchange
+
+module _ (shared : Bool) (s : State) (c : ℕ) (ask : HttpAsk) (may : MayOpen s c) (added : List Entry) (none : added ≡ []) (out : Outs) (new : State) where
+  abbrev Arrives : Type 0
+  Arrives = Change shared s added out new (Exchange c ask)
+
+  same_comes : new ≡ s → Arrives
+  same_comes left = rests (Exchange c ask) none (λ n. refl) left
+
+  starts_comes : (n : ℕ) (x : Stream) (asks : List Ask) (e : Runs) (t : State) → at e.conn s.exchanges ≡ None → t.next ≡ s.next → s.opened ≤ t.opened → (Kept s → Stands s n x t) → Does (starts n x asks e t) out new → Arrives
+  starts_comes n x asks e t free next opened stands does =
+      let silent = starts_silent n x asks e t in
+      touches (Exchange c ask) n (arrives c ask none (ap (λ (u : State). u.next) does.left ∙ silent.next ∙ next)) (λ m. refl) (omega (arith, opened, ap (λ (u : State). u.opened) does.left, silent.opened))
+      (λ kept. subst (Touches shared s n) (sym does.left) (starts_touches n x asks e shared s kept t (stands kept) free may.few))
+
+  opens_comes : (full : Bool) (asks : List Ask) (e : Runs) → at e.conn s.exchanges ≡ None → nat_le MAX_SESSIONS (sessions_in s.streams) ≡ full → Does (session_opens full asks e s) out new → Arrives
+  opens_comes true asks e free f does = same_comes does.left
+  opens_comes false asks e free f does = starts_comes (s.opened + 1) (fresh_session s.now e.conn (s.opened + 1)) asks e (with_session e.conn s) free refl (omega arith) (λ kept. stands_fresh s kept e.conn (leb-false MAX_SESSIONS (sessions_in s.streams) f)) does
+
+  by_comes : (baton : Option (List ℕ)) (asks : List Ask) (e : Runs) → at e.conn s.exchanges ≡ None → GoesBy baton asks e s out new → Arrives
+  by_comes None asks e free does = opens_comes (nat_le MAX_SESSIONS (sessions_in s.streams)) asks e free refl does
+  by_comes (Some text) asks e free (inl on) = starts_comes on.stream on.x asks e s free refl (omega arith) (λ kept. stands_known s kept on.stream on.x on.awaits.known (ap is_some on.awaits.rests)) on.does
+  by_comes (Some text) asks e free (inr dead) = same_comes dead.does.left
+
+  drawn_comes : (draw : Draw) (body : PipelineBody) → GoesDrawn draw body c ask.close s out new → Arrives
+  drawn_comes failed body does = same_comes does.left
+  drawn_comes (words drawn) body goes = by_comes body.baton (asked_in body.asks) (record { conn = c; words = drawn; close = ask.close; exchange = begins body.asks }) may.free goes
+
+  asked_comes : (asked : Asked) (draws : List Draw) → GoesAsked asked c ask.close s draws out new → Arrives
+  asked_comes (Answered answer) draws h = same_comes h.1.left
+  asked_comes (Pipeline body) draws h = drawn_comes h.0 body h.2
+
+  exchange_comes : (o : Option HttpAnswer) (token : Option (List ℕ)) (draws : List Draw) → ExchangeGoes o token s c ask draws out new → Arrives
+  exchange_comes (Some answer) token draws h = same_comes h.1.left
+  exchange_comes None token draws h = by (is_short out) h
+    where
+      by : (short : Bool) → MatchBool short (ExchangeFell s c ask draws out new) (IsHeard token s c ask draws out new) → Arrives
+      by true fell = same_comes fell.2
+      by false heard = asked_comes heard.asked draws heard.goes
+
+comes_of_changes : (token : Option (List ℕ)) (shared : Bool) (s : State) (event : Event) (draws : List Draw) (added : List Entry) (out : Outs) (new : State) → may_come s event ≡ true → ComesOf token shared s event draws added out new → Change shared s added out new event
+comes_of_changes token shared s (Exchange c ask) draws added out new may h = exchange_comes shared s c ask (opens_may s c may) added h.0 out new (route_answer ask) token draws h.1
+comes_of_changes token shared s (Opened c) draws added out new may h = comes_changes shared s added out new token (Opened c) (is_short out) may h.1
+comes_of_changes token shared s (Text c text) draws added out new may h = comes_changes shared s added out new token (Text c text) (is_short out) may h.1
+comes_of_changes token shared s (Binary c) draws added out new may h = comes_changes shared s added out new token (Binary c) (is_short out) may h.1
+comes_of_changes token shared s (Lost c) draws added out new may h = comes_changes shared s added out new token (Lost c) (is_short out) may h.1
+comes_of_changes token shared s (Moment moment) draws added out new may h = comes_changes shared s added out new token (Moment moment) (is_short out) may h.1
+comes_of_changes token shared s (Poll stream) draws added out new may h = comes_changes shared s added out new token (Poll stream) (is_short out) may h.1
+comes_of_changes token shared s Stop draws added out new may h = comes_changes shared s added out new token Stop (is_short out) may h.1
+
 may_counted : (s : State) (event : Event) → may_come (counted s) event ≡ may_come s event
 may_counted s (Opened c) = refl
 may_counted s (Text c text) = refl
 may_counted s (Binary c) = refl
 may_counted s (Lost c) = refl
 may_counted s (Moment moment) = refl
+may_counted s (Exchange c ask) = refl
 may_counted s (Poll stream) = refl
 may_counted s Stop = refl
 
 -- what the step of an event that fits does
-pub step_changes : (token : Option (List ℕ)) (shared : Bool) (s : State) (event : Event) (added : List Entry) (out : Outs) (new : State) → fits s event ≡ true → Step token shared s event added out new → Change shared (counted s) added out new event
-step_changes token shared s event added out new f h =
+pub step_changes : (token : Option (List ℕ)) (shared : Bool) (s : State) (event : Event) (draws : List Draw) (added : List Entry) (out : Outs) (new : State) → fits s event ≡ true → Step token shared s event draws added out new → Change shared (counted s) added out new event
+step_changes token shared s event draws added out new f h =
     let may : may_come s event ≡ true = (and_parts (not s.stopped && nat_lt s.events MAX_EVENTS) (may_come s event) f).1 in
-    comes_changes shared (counted s) added out new token event (is_short out) (may_counted s event ∙ may) h
+    comes_of_changes token shared (counted s) event draws added out new (may_counted s event ∙ may) h

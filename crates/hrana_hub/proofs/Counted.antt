@@ -1,11 +1,12 @@
 -- In every run a connection counts its requests that wait.
 use Rattle.std.proofs.Common.{◌≡◌, ◌≢◌, ◌≤◌, ◌+◌, ℕ, ℤ, Bool, true, false, cond, List, [], ◌∷◌, ◌++◌, length, Option, None, Some, Contains, refl, sym, ap, ◌∙◌, subst, arith, inl, inr}
-use Rattle.std.proofs.lemmas.Bool.{true≢false}
+use Rattle.std.proofs.lemmas.Bool.{cases_eq, true≢false}
 use Rattle.std.proofs.lemmas.List.{length_push}
 use Rattle.stream_requests.specs.declared.asks.Ask.{Ask}
 use Rattle.stream_requests.specs.declared.asks.Ask.TheVariants as ask
 use Rattle.stream_requests.specs.declared.replies.Reply.{Reply}
 use Rattle.http_wire.specs.declared.outs.Outs.{Outs}
+use Rattle.engine_core.specs.Draws.{Draw}
 use Rattle.engine_core.specs.declared.entries.Entry.{Entry}
 use Rattle.stream_task.specs.Doing.{work_of}
 use Rattle.stream_task.specs.Laws.{HasNoClose, ClosesLast, ByCloses, ClosesAlone}
@@ -16,28 +17,30 @@ use Rattle.stream_task.specs.declared.session.TxnState.TheVariants.{Auto, Deferr
 use Rattle.stream_task.specs.declared.work.Work.{Work}
 use Rattle.stream_task.specs.declared.work.Work.TheVariants as work
 use Rattle.hrana_hub.specs.declared.events.Event.{Event}
-use Rattle.hrana_hub.specs.Maps.{Numbered, Ids, at, put, placed, without, each, id_at, without_id}
-use Rattle.hrana_hub.specs.State.{Conn, Stream, State}
+use Rattle.hrana_hub.specs.Maps.{Numbered, Ids, at, put, placed, without, those_left, id_at, without_id}
+use Rattle.hrana_hub.specs.State.{Conn, Stream, State, of_exchanges}
 use Rattle.hrana_hub.specs.Arrivals.{fresh, joined, waiting, waited, with_stream, with_request, is_close, shut}
 use Rattle.hrana_hub.specs.Polled.{Polled, PollFell, reply_in, is_over, is_closed, still_wait, first_id, later_ids, replies, polled, streams_left, replied, dropped, seen_of}
 use Rattle.hrana_hub.specs.Ended.{let_go, without_conn}
-use Rattle.hrana_hub.specs.Moments.{is_due, expired, after, at_moment}
+use Rattle.hrana_hub.specs.Moments.{after, at_moment}
 use Rattle.hrana_hub.specs.Run.{Run, start, more}
 use Rattle.hrana_hub.specs.Step.{counted, new_conn, with_new_conn}
 use Rattle.hrana_hub.specs.Laws.{InEveryRun, WaitsAreCounted, waits_of}
-use Rattle.hrana_hub.proofs.Changes.{Change, rests, comes, marks, joins, asks_for, polls, falls, loses, expires, ends, IsOpen, IsMarked, step_changes}
+use Rattle.hrana_hub.proofs.Changes.{Change, rests, comes, marks, joins, asks_for, polls, falls, touches, loses, expires, ends, IsOpen, IsMarked, step_changes}
 use Rattle.hrana_hub.proofs.EntryLemmas.{at_put_other}
-use Rattle.hrana_hub.proofs.Expiring.{each_cases}
+use Rattle.hrana_hub.proofs.Left.{left_cases, after_cases, after_same, sum_left}
 use Rattle.hrana_hub.proofs.IdLists.{Lead, Apart, lead_weaker, lead_both, lead_at, lead_placed, lead_without, apart_placed, apart_without, freed}
-use Rattle.hrana_hub.proofs.Kept.{Kept, counted_kept, run_kept}
+use Rattle.hrana_hub.proofs.Kept.{counted_kept, run_kept, not_session}
+use Rattle.hrana_hub.proofs.Standing.{Kept}
+use Rattle.hrana_hub.proofs.Touching.{IsSession, IsIdle, Touches}
 use Rattle.hrana_hub.proofs.Listed.{put_cases, placed_cases, without_cases, let_go_cases}
 use Rattle.hrana_hub.proofs.MapLemmas.{none_some, some_one, at_placed, at_placed_other, Rises}
 use Rattle.hrana_hub.proofs.Paired.{EachPairs, first_waits, run_paired}
-use Rattle.hrana_hub.proofs.WaitSums.{share, share_none, share_all, sum_put, sum_without, sum_placed, sum_none, sum_let_go, sum_each, after_share}
+use Rattle.hrana_hub.proofs.WaitSums.{share, share_none, share_all, sum_put, sum_without, sum_placed, sum_none, sum_let_go, share_idle}
 
 -- ---- closes
 
--- a close is the last request of a stream, and a stream that is closed has none
+-- a close is the last request of a stream of a connection, and one that is closed has none
 pub record Closing (x : Stream) : Type 0 where
   pub last : ClosesLast x.task.asks
   pub closed : x.task.session.state ≡ Closed → x.task.asks ≡ []
@@ -45,6 +48,7 @@ pub record Closing (x : Stream) : Type 0 where
 -- a stream to which an id leads: it wasn't asked to close
 pub record Named (c : ℕ) (x : Stream) : Type 0 where
   pub conn : x.conn ≡ c
+  pub own : of_exchanges x ≡ false
   pub none : HasNoClose x.task.asks
   pub unclosed : x.task.session.state ≢ Closed
 
@@ -63,10 +67,12 @@ pub record ConnCounts (opened : ℕ) (streams : Numbered Stream) (c : ℕ) (k : 
 
 pub record Counts (s : State) : Type 0 where
   pub conn : (c : ℕ) (k : Conn) → at c s.conns ≡ Some k → ConnCounts s.opened s.streams c k
-  pub stream : (n : ℕ) (x : Stream) → at n s.streams ≡ Some x → Closing x
+  pub stream : (n : ℕ) (x : Stream) → at n s.streams ≡ Some x → of_exchanges x ≡ false → Closing x
+  -- no request of a stream of exchanges waits with an id
+  pub idle : (n : ℕ) (x : Stream) → at n s.streams ≡ Some x → of_exchanges x ≡ true → x.waits ≡ []
 
 counted_counts : (s : State) → Counts s → Counts (counted s)
-counted_counts s h = record { conn = h.conn; stream = h.stream }
+counted_counts s h = record { conn = h.conn; stream = h.stream; idle = h.idle }
 
 -- ---- requests behind others
 
@@ -124,12 +130,19 @@ conns_put opened streams conns c k k' there own others d j e = elim (put_cases c
   | inr other ↦ others d j other.0 other.1
 ]
 
--- what was put has this, and so has what was there
-streams_put : (P : Stream → Type 0) (n : ℕ) (x y : Stream) (es : Numbered Stream) → at n es ≡ Some x → P y → ((m : ℕ) (z : Stream) → at m es ≡ Some z → P z) → (m : ℕ) (z : Stream) → at m (put n y es) ≡ Some z → P z
-streams_put P n x y es there p h m z e = elim (put_cases n m x y z es there e) [
-  | inl own ↦ subst P (sym own.1) p
-  | inr other ↦ h m z other.1
+-- of what was put and is one of exchanges, or isn't, this holds, and so it does of what was there
+streams_put : (b : Bool) (P : Stream → Type 0) (n : ℕ) (x y : Stream) (es : Numbered Stream) → at n es ≡ Some x → (of_exchanges y ≡ b → P y) → ((m : ℕ) (z : Stream) → at m es ≡ Some z → of_exchanges z ≡ b → P z) → (m : ℕ) (z : Stream) → at m (put n y es) ≡ Some z → of_exchanges z ≡ b → P z
+streams_put b P n x y es there p h m z e is = elim (put_cases n m x y z es there e) [
+  | inl own ↦ subst P (sym own.1) (p (ap of_exchanges (sym own.1) ∙ is))
+  | inr other ↦ h m z other.1 is
 ]
+
+abbrev Idle : Stream → Type 0
+Idle x = x.waits ≡ []
+
+-- the stream of a connection has become another, so the idle ones are as before
+idle_put : (n : ℕ) (x y : Stream) (es : Numbered Stream) → at n es ≡ Some x → of_exchanges y ≡ false → ((m : ℕ) (z : Stream) → at m es ≡ Some z → of_exchanges z ≡ true → Idle z) → (m : ℕ) (z : Stream) → at m (put n y es) ≡ Some z → of_exchanges z ≡ true → Idle z
+idle_put n x y es there own h = streams_put true Idle n x y es there (λ is. absurd (true≢false (sym is ∙ own))) h
 
 was_put : (c n : ℕ) (x y : Stream) (es : Numbered Stream) → at n es ≡ Some x → (Named c x → Named c y) → (m : ℕ) (z : Stream) → at m (put n y es) ≡ Some z → Was c es m z
 was_put c n x y es there named m z e = elim (put_cases n m x y z es there e) [
@@ -153,14 +166,19 @@ other_without opened c n k x es r there other h =
 
 comes_counts : (s : State) (c : ℕ) (closing : Bool) → Kept s → Counts s → at c s.conns ≡ None → Counts (with_new_conn c closing s)
 comes_counts s c closing kept h none =
-    let no_waits : waits_of c s.streams ≡ 0 = sum_none c s.streams kept.streams_rise (λ n x e same. none_some (sym none ∙ ap (λ d. at d s.conns) (sym same) ∙ (kept.stream n x e).known)) in
+    let no_waits : waits_of c s.streams ≡ 0 = sum_none c s.streams kept.streams_rise (λ n x e. no_share n x e (of_exchanges x) refl) in
     record {
       conn = λ d j e. elim (placed_cases c d (new_conn closing) j s.conns e) [
         | inl own ↦ subst (λ (l : Conn). ConnCounts s.opened s.streams d l) (sym own.1) (subst (λ b. ConnCounts s.opened s.streams b (new_conn closing)) (sym own.0) (record { counted = λ o. sym no_waits; at_most = omega (arith, no_waits); leads = tt; apart = tt }))
         | inr other ↦ h.conn d j other.1
       ];
       stream = h.stream;
+      idle = h.idle;
     }
+  where
+    no_share : (n : ℕ) (x : Stream) → at n s.streams ≡ Some x → (b : Bool) → of_exchanges x ≡ b → share c x ≡ 0
+    no_share n x e true is = share_idle c x (h.idle n x e is)
+    no_share n x e false own = share_none c x (λ same. none_some (sym none ∙ ap (λ d. at d s.conns) (sym same) ∙ (kept.stream n x e own).known))
 
 marks_counts : (s : State) (c : ℕ) (k k' : Conn) → Counts s → IsOpen s c k → IsMarked k k' → (d : ℕ) (j : Conn) → at d (put c k' s.conns) ≡ Some j → ConnCounts s.opened s.streams d j
 marks_counts s c k k' h o m =
@@ -178,7 +196,7 @@ fresh_closing : (now c n : ℕ) → Closing (fresh now c n)
 fresh_closing now c n = record { last = tt; closed = λ e. refl }
 
 fresh_named : (now c n : ℕ) → Named c (fresh now c n)
-fresh_named now c n = record { conn = refl; none = tt; unclosed = λ e. true≢false (sym (ap is_closed e)) }
+fresh_named now c n = record { conn = refl; own = refl; none = tt; unclosed = λ e. true≢false (sym (ap is_closed e)) }
 
 share_fresh : (b : Bool) → ◌≡◌ {A = ℕ} (cond b 0 0) 0
 share_fresh true = refl
@@ -218,9 +236,13 @@ module _ (s : State) (c : ℕ) (kept : Kept s) (h : Counts s) where
           leads = lead_placed (λ m. Leads n one_more c m) id n k.ids own now.leads;
           apart = apart_placed id n k.ids (lead_weaker (λ m. Leads s.opened s.streams c m) (λ m. m ≢ n) k.ids (λ m l same. omega (arith, same, l.given)) old.leads) old.apart;
         }) (λ d j other e. conn_more d j (h.conn d j e));
-        stream = λ m z e. elim (placed_cases n m (fresh s.now c n) z s.streams e) [
+        stream = λ m z e own. elim (placed_cases n m (fresh s.now c n) z s.streams e) [
           | inl mine ↦ subst Closing (sym mine.1) (fresh_closing s.now c n)
-          | inr other ↦ h.stream m z other.1
+          | inr other ↦ h.stream m z other.1 own
+        ];
+        idle = λ m z e is. elim (placed_cases n m (fresh s.now c n) z s.streams e) [
+          | inl mine ↦ absurd (true≢false (sym is ∙ ap of_exchanges mine.1))
+          | inr other ↦ h.idle m z other.1 is
         ];
       }
 
@@ -240,7 +262,7 @@ module _ (s : State) (c : ℕ) (k : Conn) (stream : ℤ) (n : ℕ) (x : Stream) 
   asked_closing = record { last = subst ClosesLast (sym asked_is) (close_last x.task.asks w its.none); closed = λ e. absurd (its.unclosed e) }
 
   asked_named : is_close what ≡ false → Named c x → Named c then
-  asked_named no_close h = record { conn = h.conn; none = subst HasNoClose (sym asked_is) (no_close_more x.task.asks w h.none (no_close_work what w no_close served)); unclosed = h.unclosed }
+  asked_named no_close h = record { conn = h.conn; own = h.own; none = subst HasNoClose (sym asked_is) (no_close_more x.task.asks w h.none (no_close_work what w no_close served)); unclosed = h.unclosed }
 
   -- a close frees the id, and no other leads to the stream
   asked_leads : (closes : Bool) → is_close what ≡ closes → Lead (λ m. Leads s.opened (put n then s.streams) c m) (cond closes (without_id stream k.ids) k.ids)
@@ -267,7 +289,8 @@ module _ (s : State) (c : ℕ) (k : Conn) (stream : ℤ) (n : ℕ) (x : Stream) 
           leads = asked_leads (is_close what) refl;
           apart = asked_apart (is_close what);
         }) (λ d j other e. other_put s.opened d n j x then s.streams known refl (λ same. other (same ∙ its.conn)) (h.conn d j e));
-        stream = streams_put Closing n x then s.streams known asked_closing h.stream;
+        stream = streams_put false Closing n x then s.streams known (λ own. asked_closing) h.stream;
+        idle = idle_put n x then s.streams known its.own h.idle;
       }
 
 -- ---- a poll
@@ -296,7 +319,7 @@ still_and (Some r) ids e = (let long : length ids ≡ length (first_id ids ∷ l
 behind_close : (asks rest : List Work) → asks ≡ work.Close ∷ rest → ClosesLast asks → rest ≡ []
 behind_close asks rest e h = (subst ClosesLast e h).0 refl
 
-module _ (law : ClosesAlone) (shared : Bool) (s : State) (n : ℕ) (x : Stream) (k : Conn) (kept : Kept s) (pairs : EachPairs s.streams) (h : Counts s) (known : at n s.streams ≡ Some x) (o : IsOpen s x.conn k) where
+module _ (law : ClosesAlone) (shared : Bool) (s : State) (n : ℕ) (x : Stream) (k : Conn) (kept : Kept s) (pairs : EachPairs s.streams) (h : Counts s) (known : at n s.streams ≡ Some x) (own : of_exchanges x ≡ false) (o : IsOpen s x.conn k) where
   named_by : (task : Task) (result : _) → ByCloses x.task result task → (c : ℕ) → Named c x → (x.task.asks ≡ work.Close ∷ task.asks → ⊥)
   named_by task result b c i e = true≢false (subst HasNoClose e i.none).0
 
@@ -308,25 +331,25 @@ module _ (law : ClosesAlone) (shared : Bool) (s : State) (n : ℕ) (x : Stream) 
     next = polled s.now given p.task x
 
     by : ByCloses x.task p.result p.task
-    by = law shared (seen_of p.by s) x.task p.entry p.result p.task (λ e. no_waiting x.task.asks waits ((h.stream n x known).closed e)) p.polls
+    by = law shared (seen_of p.by s) x.task p.entry p.result p.task (λ e. no_waiting x.task.asks waits ((h.stream n x known own).closed e)) p.polls
 
     one_less : length next.waits + replies given ≡ length x.waits
-    one_less = still_and given x.waits (first_waits x.waits x.task.asks waits (pairs n x known))
+    one_less = still_and given x.waits (first_waits x.waits x.task.asks waits (pairs n x known own))
 
     next_named : (c : ℕ) → Named c x → Named c next
-    next_named c i = record { conn = i.conn; none = by.none i.none; unclosed = λ e. named_by p.task p.result by c i (by.closed e).0 }
+    next_named c i = record { conn = i.conn; own = i.own; none = by.none i.none; unclosed = λ e. named_by p.task p.result by c i (by.closed e).0 }
 
     next_closing : Closing next
-    next_closing = (let its = h.stream n x known in record { last = by.last its.last; closed = λ e. behind_close x.task.asks p.task.asks (by.closed e).0 its.last })
+    next_closing = (let its = h.stream n x known own in record { last = by.last its.last; closed = λ e. behind_close x.task.asks p.task.asks (by.closed e).0 its.last })
 
     -- a stream that is closed had one request that waited
     over_waits : is_over given p.task ≡ true → length x.waits ≡ replies given
     over_waits e =
         let close = by.closed (over_closed given p.task e) in
-        let rest : p.task.asks ≡ [] = behind_close x.task.asks p.task.asks close.0 (h.stream n x known).last in
+        let rest : p.task.asks ≡ [] = behind_close x.task.asks p.task.asks close.0 (h.stream n x known own).last in
         let asks : length x.task.asks ≡ 1 = ap (λ l. length l) (close.0 ∙ ap (λ l. work.Close ∷ l) rest) ∙ omega arith in
         let one : replies given ≡ 1 = ap (λ r. replies (reply_in r)) close.1 in
-        omega (arith, pairs n x known, asks, one)
+        omega (arith, pairs n x known own, asks, one)
 
     left_waits : (over : Bool) → is_over given p.task ≡ over → waits_of x.conn (streams_left over n next s.streams) + replies given ≡ waits_of x.conn s.streams
     left_waits true e = omega (arith, sum_without x.conn n x s.streams known, share_all x.conn x refl, over_waits e)
@@ -340,9 +363,13 @@ module _ (law : ClosesAlone) (shared : Bool) (s : State) (n : ℕ) (x : Stream) 
     left_other true d j other old = other_without s.opened d n j x s.streams kept.streams_rise known other old
     left_other false d j other old = other_put s.opened d n j x next s.streams known refl other old
 
-    left_closing : (over : Bool) (m : ℕ) (z : Stream) → at m (streams_left over n next s.streams) ≡ Some z → Closing z
-    left_closing true m z e = h.stream m z (without_cases n m z s.streams kept.streams_rise e).1
-    left_closing false m z e = streams_put Closing n x next s.streams known next_closing h.stream m z e
+    left_closing : (over : Bool) (m : ℕ) (z : Stream) → at m (streams_left over n next s.streams) ≡ Some z → of_exchanges z ≡ false → Closing z
+    left_closing true m z e free = h.stream m z (without_cases n m z s.streams kept.streams_rise e).1 free
+    left_closing false m z e free = streams_put false Closing n x next s.streams known (λ its. next_closing) h.stream m z e free
+
+    left_idle : (over : Bool) (m : ℕ) (z : Stream) → at m (streams_left over n next s.streams) ≡ Some z → of_exchanges z ≡ true → Idle z
+    left_idle true m z e is = h.idle m z (without_cases n m z s.streams kept.streams_rise e).1 is
+    left_idle false m z e is = idle_put n x next s.streams known own h.idle m z e is
 
     polls_conns : (over : Bool) → is_over given p.task ≡ over → (d : ℕ) (j : Conn) → at d (put x.conn (replied n over given k) s.conns) ≡ Some j → ConnCounts s.opened (streams_left over n next s.streams) d j
     polls_conns over e =
@@ -357,7 +384,7 @@ module _ (law : ClosesAlone) (shared : Bool) (s : State) (n : ℕ) (x : Stream) 
         }) (λ d j other f. left_other over d j other (h.conn d j f))
 
     polls_counts : Counts new
-    polls_counts = subst Counts (sym p.left) (record { conn = polls_conns (is_over given p.task) refl; stream = left_closing (is_over given p.task) })
+    polls_counts = subst Counts (sym p.left) (record { conn = polls_conns (is_over given p.task) refl; stream = left_closing (is_over given p.task); idle = left_idle (is_over given p.task) })
 
   -- ---- a poll that met want of memory
 
@@ -368,7 +395,7 @@ module _ (law : ClosesAlone) (shared : Bool) (s : State) (n : ℕ) (x : Stream) 
     empty_named : (c : ℕ) → Named c x → Named c empty
     empty_named c i =
         let by = law shared (seen_of p.by s) x.task p.entry p.result p.task i.unclosed p.polls in
-        record { conn = i.conn; none = tt; unclosed = λ e. named_by p.task p.result by c i (by.closed e).0 }
+        record { conn = i.conn; own = i.own; none = tt; unclosed = λ e. named_by p.task p.result by c i (by.closed e).0 }
 
     falls_counts : Counts new
     falls_counts =
@@ -381,7 +408,8 @@ module _ (law : ClosesAlone) (shared : Bool) (s : State) (n : ℕ) (x : Stream) 
             leads = leads_on s.opened x.conn s.streams (put n empty s.streams) (was_put x.conn n x empty s.streams known (empty_named x.conn)) k.ids old.leads;
             apart = old.apart;
           }) (λ d j other e. other_put s.opened d n j x empty s.streams known refl other (h.conn d j e));
-          stream = streams_put Closing n x empty s.streams known (record { last = tt; closed = λ e. refl }) h.stream;
+          stream = streams_put false Closing n x empty s.streams known (λ its. record { last = tt; closed = λ e. refl }) h.stream;
+          idle = idle_put n x empty s.streams known own h.idle;
         })
 
 -- ---- ends
@@ -391,61 +419,109 @@ loses_counts s c k kept h there = record {
   conn = λ d j e.
       (let was = without_cases c d j s.conns kept.conns_rise e in
       let apart : (n : ℕ) → Contains k.streams n → (x : Stream) → at n s.streams ≡ Some x → x.conn ≢ d = λ n i x f same.
-      (let own = (kept.conn c k there).owned n i in was.0 (sym same ∙ ap (λ (z : Stream). z.conn) (some_one (sym f ∙ own.1)) ∙ own.2)) in
+      (let own = (kept.conn c k there).owned n i in was.0 (sym same ∙ ap (λ (z : Stream). z.conn) (some_one (sym f ∙ own.known)) ∙ own.conn)) in
       conn_on s.opened d j s.streams (let_go k.streams s.streams) (sum_let_go d k.streams s.streams kept.streams_rise apart)
       (λ m z f. was_same d m s.streams z (let_go_cases k.streams m z s.streams kept.streams_rise f).1) (h.conn d j was.1));
-  stream = λ m z e. h.stream m z (let_go_cases k.streams m z s.streams kept.streams_rise e).1;
+  stream = λ m z e own. h.stream m z (let_go_cases k.streams m z s.streams kept.streams_rise e).1 own;
+  idle = λ m z e is. h.idle m z (let_go_cases k.streams m z s.streams kept.streams_rise e).1 is;
 }
 
 -- a stream that expires has no request, and isn't closed
-after_closing : (moment : ℕ) (x : Stream) → Closing x → Closing (after moment x)
-after_closing moment x h = by (is_due moment x)
-  where
-    by : (b : Bool) → Closing (cond b (expired x) x)
-    by true = record { last = tt; closed = λ e. refl }
-    by false = h
+record Lasts (x z : Stream) : Type 0 where
+  closing : Closing x → Closing z
+  named : (c : ℕ) → Named c x → Named c z
+  idle : Idle x → Idle z
 
-after_named : (moment c : ℕ) (x : Stream) → Named c x → Named c (after moment x)
-after_named moment c x h = by (is_due moment x)
-  where
-    by : (b : Bool) → Named c (cond b (expired x) x)
-    by true = record { conn = h.conn; none = tt; unclosed = λ e. cc }
-    by false = h
+abbrev LastsIf : Stream → Option Stream → Type 0
+LastsIf x None = Unit {0}
+LastsIf x (Some z) = Lasts x z
 
-expires_counts : (s : State) (moment : ℕ) → Counts s → Counts (at_moment moment s)
-expires_counts s moment h = record {
-  conn = λ c k e. conn_on s.opened c k s.streams (each (after moment) s.streams) (sum_each c (after moment) (after_share c moment) s.streams)
-      (λ m z f. (let was = each_cases (after moment) m z s.streams f in record { x = was.0; there = was.1; named = λ own. subst (Named c) (sym was.2) (after_named moment c was.0 own) }))
-      (h.conn c k e);
-  stream = λ m z f. (let was = each_cases (after moment) m z s.streams f in subst Closing (sym was.2) (after_closing moment was.0 (h.stream m was.0 was.1)));
-}
+after_lasts : (moment : ℕ) (x z : Stream) → after moment x ≡ Some z → Lasts x z
+after_lasts moment x z e = subst (LastsIf x) e (after_cases (LastsIf x) moment x
+    (λ due. record { closing = λ h. h; named = λ c h. h; idle = λ h. h })
+    (λ due own. record { closing = λ h. record { last = tt; closed = λ e. refl }; named = λ c h. record { conn = h.conn; own = h.own; none = tt; unclosed = λ e. cc }; idle = λ h. h })
+    (λ due own. tt))
+
+expires_counts : (s : State) (moment : ℕ) → Kept s → Counts s → Counts (at_moment moment s)
+expires_counts s moment kept h =
+    let r = kept.streams_rise in
+    let left : Numbered Stream = those_left (after moment) s.streams in
+    record {
+      conn = λ c k e. conn_on s.opened c k s.streams left (sum_left c moment s.streams r h.idle)
+          (λ m z f. (let was = left_cases (after moment) m z s.streams r f in record { x = was.0; there = was.1; named = (after_lasts moment was.0 z was.2).named c })) (h.conn c k e);
+      stream = λ m z f own. (let was = left_cases (after moment) m z s.streams r f in (after_lasts moment was.0 z was.2).closing (h.stream m was.0 was.1 (sym (after_same moment was.0 z was.2).exchanges ∙ own)));
+      idle = λ m z f is. (let was = left_cases (after moment) m z s.streams r f in (after_lasts moment was.0 z was.2).idle (h.idle m was.0 was.1 (sym (after_same moment was.0 z was.2).exchanges ∙ is)));
+    }
+
+-- ---- exchanges
+
+idle_at : (o : Option Stream) → IsSession o → ((x : Stream) → o ≡ Some x → of_exchanges x ≡ true → Idle x) → IsIdle o
+idle_at None is h = tt
+idle_at (Some x) is h = h x refl is
+
+module _ (shared : Bool) (s new : State) (n : ℕ) (h : Counts s) (opened : s.opened ≤ new.opened) (t : Touches shared s n new) where
+  abbrev before_idle : IsIdle (at n s.streams)
+  before_idle = idle_at (at n s.streams) t.streams.was (λ x e is. h.idle n x e is)
+
+  apart_now : (m : ℕ) (z : Stream) → at m new.streams ≡ Some z → of_exchanges z ≡ false → m ≢ n
+  apart_now m z e own same = not_session (at n new.streams) z t.streams.now (ap (λ j. at j new.streams) (sym same) ∙ e) own
+
+  -- an id leads to no stream of exchanges
+  not_led : (c : ℕ) → Leads s.opened s.streams c n → (z : Stream) → at n new.streams ≡ Some z → ⊥
+  not_led c l z e = by (at n s.streams) refl
+    where
+      by : (o : Option Stream) → at n s.streams ≡ o → ⊥
+      by None none = none_some (sym (t.gone l.given none) ∙ e)
+      by (Some x) there = not_session (at n s.streams) x t.streams.was there (l.named x there).own
+
+  still_named : (c m : ℕ) → Leads s.opened s.streams c m → (z : Stream) → at m new.streams ≡ Some z → Named c z
+  still_named c m l z e = elim (cases_eq m n) [
+    | inl same ↦ absurd (not_led c (subst (λ j. Leads s.opened s.streams c j) same l) z (ap (λ j. at j new.streams) (sym same) ∙ e))
+    | inr other ↦ l.named z (sym (t.streams.others m other) ∙ e)
+  ]
+
+  touches_counts : Counts new
+  touches_counts = record {
+    conn = λ c k e. (let old = h.conn c k (ap (λ es. at c es) (sym t.conns) ∙ e) in let same : waits_of c new.streams ≡ waits_of c s.streams = t.streams.sums before_idle c in record {
+      counted = λ unshut. old.counted unshut ∙ sym same;
+      at_most = omega (arith, same, old.at_most);
+      leads = lead_weaker (λ m. Leads s.opened s.streams c m) (λ m. Leads new.opened new.streams c m) k.ids (λ m l. record { given = omega (arith, l.given, opened); named = still_named c m l }) old.leads;
+      apart = old.apart;
+    });
+    stream = λ m z e own. h.stream m z (sym (t.streams.others m (apart_now m z e own)) ∙ e) own;
+    idle = λ m z e is. elim (cases_eq m n) [
+      | inl same ↦ subst IsIdle (ap (λ j. at j new.streams) (sym same) ∙ e) (t.streams.idle before_idle)
+      | inr other ↦ h.idle m z (sym (t.streams.others m other) ∙ e) is
+    ];
+  }
 
 -- ---- every step
 
 pub change_counts : {event : Event} → ClosesAlone → (shared : Bool) (s : State) (added : List Entry) (out : Outs) (new : State) → Kept s → EachPairs s.streams → Counts s → Change shared s added out new event → Counts new
 change_counts law shared s added out new kept pairs h (rests event none silent left) = subst Counts (sym left) h
 change_counts law shared s added out new kept pairs h (comes c closing none unknown few left) = subst Counts (sym left) (comes_counts s c closing kept h unknown)
-change_counts law shared s added out new kept pairs h (marks event c k k' none silent heard marked left) = subst Counts (sym left) (record { conn = marks_counts s c k k' h heard marked; stream = h.stream })
+change_counts law shared s added out new kept pairs h (marks event c k k' none silent heard marked left) = subst Counts (sym left) (record { conn = marks_counts s c k k' h heard marked; stream = h.stream; idle = h.idle })
 change_counts law shared s added out new kept pairs h (joins c text k id none heard unnamed few left) = subst Counts (sym left) (joins_counts s c kept h k id heard.known)
 change_counts law shared s added out new kept pairs h (asks_for c text k stream n x id what w none heard few named known served left) = subst Counts (sym left) (asks_counts s c k stream n x id what w h heard named known served)
-change_counts law shared s added out new kept pairs h (polls stream x k known waits heard p) = polls_counts law shared s stream.0 x k kept pairs h known heard added out new waits p
-change_counts law shared s added out new kept pairs h (falls stream x k known heard p) = falls_counts law shared s stream.0 x k kept pairs h known heard added out new p
+change_counts law shared s added out new kept pairs h (polls stream x k known own waits heard p) = polls_counts law shared s stream.0 x k kept pairs h known own heard added out new waits p
+change_counts law shared s added out new kept pairs h (falls stream x k known own heard p) = falls_counts law shared s stream.0 x k kept pairs h known own heard added out new p
+change_counts law shared s added out new kept pairs h (touches event n adds silent opened touch) = touches_counts shared s new n h opened (touch kept)
 change_counts law shared s added out new kept pairs h (loses c k known ended left) = subst Counts (sym left) (loses_counts s c k kept h known)
-change_counts law shared s added out new kept pairs h (expires moment ended left) = subst Counts (sym left) (expires_counts s moment h)
-change_counts law shared s added out new kept pairs h (ends ended left) = subst Counts (sym left) (record { conn = λ c k e. absurd (none_some e); stream = λ n x e. absurd (none_some e) })
+change_counts law shared s added out new kept pairs h (expires moment ended left) = subst Counts (sym left) (expires_counts s moment kept h)
+change_counts law shared s added out new kept pairs h (ends ended left) = subst Counts (sym left) (record { conn = λ c k e. absurd (none_some e); stream = λ n x e own. absurd (none_some e); idle = λ n x e is. absurd (none_some e) })
 
-pub run_counts : {token : Option (List ℕ)} {shared : Bool} {events : List Event} {entries : List (List Entry)} {outs : List Outs} {s : State} → ClosesAlone → Run token shared events entries outs s → Counts s
-run_counts law start = record { conn = λ c k e. absurd (none_some e); stream = λ n x e. absurd (none_some e) }
-run_counts {token} {shared} law (more {s = before} run event added out new fit step) =
-    change_counts law shared (counted before) added out new (counted_kept before (run_kept run)) (run_paired run) (counted_counts before (run_counts law run)) (step_changes token shared before event added out new fit step)
+pub run_counts : {token : Option (List ℕ)} {shared : Bool} {events : List Event} {drawn : List (List Draw)} {entries : List (List Entry)} {outs : List Outs} {s : State} → ClosesAlone → Run token shared events drawn entries outs s → Counts s
+run_counts law start = record { conn = λ c k e. absurd (none_some e); stream = λ n x e own. absurd (none_some e); idle = λ n x e is. absurd (none_some e) }
+run_counts {token} {shared} law (more {s = before} run event draws added out new fit step) =
+    change_counts law shared (counted before) added out new (counted_kept before (run_kept run)) (run_paired run) (counted_counts before (run_counts law run)) (step_changes token shared before event draws added out new fit step)
 
 pub waits_counted : ClosesAlone → InEveryRun WaitsAreCounted
-waits_counted law token shared events entries outs s run =
+waits_counted law token shared events drawn entries outs s run =
     let kept = run_kept run in
     let h = run_counts law run in
     record {
       paired = run_paired run;
-      listed = λ n x e. (let its = kept.stream n x e in record { k = its.k; known = its.known; lists = its.lists });
+      listed = λ n x e own. (let its = kept.stream n x e own in record { k = its.k; known = its.known; lists = its.lists });
       counted = λ c k e. (h.conn c k e).counted;
       at_most = λ c k e. (h.conn c k e).at_most;
     }

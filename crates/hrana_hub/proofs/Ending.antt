@@ -30,10 +30,10 @@ use Rattle.hrana_hub.specs.Adds.{Adds, LeadsOn}
 use Rattle.baton_store.specs.Batons.{Batons}
 use Rattle.baton_store.specs.Batons.{without as without_session}
 use Rattle.hrana_hub.specs.Agrees.{HubAgrees, IsNumbered, IsTied, open_units, HubStands, forgets}
-use Rattle.hrana_hub.specs.Ended.{end_of, ends_of, let_go, without_conn, all_ends, at_its_end, HasLeft, IsGone, Frees}
+use Rattle.hrana_hub.specs.Ended.{end_of, ends_of, let_go, without_conn, without_lost, all_ends, at_its_end, HasLeft, IsGone, Frees}
 use Rattle.hrana_hub.specs.Arrivals.{nothing}
 use Rattle.hrana_hub.specs.Polled.{with_streams}
-use Rattle.hrana_hub.specs.Step.{LostAt}
+use Rattle.hrana_hub.specs.Step.{LostAt, ExchangeLost}
 use Rattle.hrana_hub.proofs.Adding.{adds_one}
 use Rattle.hrana_hub.proofs.EntryLemmas.{at_first, without_first, without_unknown, at_without, at_without_other, rising_without}
 use Rattle.hrana_hub.proofs.Waiting.{has_gone, waits_on}
@@ -236,6 +236,21 @@ with_conns conns s = record s { conns = conns }
 pub lost_unknown : (s : State) (c : ℕ) (conns : Numbered Conn) → at c s.conns ≡ None → conns ≡ without c s.conns → with_conns conns s ≡ s
 lost_unknown s c conns unknown is = ap (λ cs. with_conns cs s) (is ∙ without_unknown c s.conns unknown)
 
+-- ---- the connection of an exchange
+
+abbrev pub with_exchanges : Numbered ℕ → State → State
+with_exchanges exchanges s = record s { exchanges = exchanges }
+
+pub exchange_unknown : (s : State) (c : ℕ) (exchanges : Numbered ℕ) (out : Outs) → at c s.exchanges ≡ None → exchanges ≡ without c s.exchanges → out ≡ nothing → ExchangeLost s c (at c s.exchanges) [] out (with_exchanges exchanges s)
+exchange_unknown s c exchanges out unknown is given = subst (λ o. ExchangeLost s c o [] out (with_exchanges exchanges s)) (sym unknown)
+    (record { none = refl; given = given; left = ap (λ es. with_exchanges es s) (is ∙ without_unknown c s.exchanges unknown) })
+
+pub exchange_lost : (s : State) (c n : ℕ) (added : List Entry) (out : Outs) (new : State) → at c s.exchanges ≡ Some n → added ≡ end_of undo.Lost (at n s.streams) → out ≡ nothing → new ≡ without_lost c n s → ExchangeLost s c (at c s.exchanges) added out new
+exchange_lost s c n added out new known ends given left = subst (λ o. ExchangeLost s c o added out new) (sym known) (ends, given, left)
+
+pub exchange_left : (c n : ℕ) (exchanges : Numbered ℕ) (h old : Seen) (new : State) → h ≡ old → exchanges ≡ without c h.state.exchanges → new ≡ with_streams (without n h.state.streams) (with_exchanges exchanges h.state) → new ≡ without_lost c n old.state
+exchange_left c n exchanges h old new is rest left = left ∙ ap (λ es. with_streams (without n h.state.streams) (with_exchanges es h.state)) rest ∙ ap (λ (x : Seen). without_lost c n x.state) is
+
 -- ---- a connection that is lost
 
 pub lost_leaves : (c : ℕ) (k : Conn) (numbers : List ℕ) (conns : Numbered Conn) (h old : Seen) (new : State) → h ≡ old → numbers ≡ k.streams → conns ≡ without c h.state.conns
@@ -279,7 +294,7 @@ gone told shared db live h n a none = record {
 }
 
 -- the streams of the connection are gone, and so is the connection
-pub lost_frees : {D : Type 0} (told shared : Bool) (db : D) (live : Lives D) (c : ℕ) (o : Option Conn) (k : Conn) (es : Numbered Stream) (new : Seen) → o ≡ Some k → IsStrictlySortedBy nat_cmp (keys_of es)
-    → HubAgrees told shared db live new → new.state.streams ≡ let_go k.streams es → at c new.state.conns ≡ None → Frees c o new
-lost_frees told shared db live c o k es new known r a left none =
-    subst (λ o. Frees c o new) (sym known) (none, λ i d lt. gone told shared db live new _ a (ap (at _) left ∙ none_left k.streams es r i d lt))
+pub lost_frees : {D : Type 0} (told shared : Bool) (db : D) (live : Lives D) (c : ℕ) (o : Option Conn) (k : Conn) (es : Numbered Stream) (stream : Option ℕ) (new : Seen) → o ≡ Some k → IsStrictlySortedBy nat_cmp (keys_of es)
+    → HubAgrees told shared db live new → new.state.streams ≡ let_go k.streams es → at c new.state.conns ≡ None → Frees c o stream new
+lost_frees told shared db live c o k es stream new known r a left none =
+    subst (λ o. Frees c o stream new) (sym known) (none, λ i d lt. gone told shared db live new _ a (ap (at _) left ∙ none_left k.streams es r i d lt))

@@ -212,13 +212,13 @@ quiet_at now n x (e ∷ es) q k = elim (cases_eq n e.0) [
 
 -- ---- all of them
 
+above_one : {A : Type 0} (m : ℕ) (o : Option A) (k : ℕ) (fs : Numbered A) → m < k → AllAbove m fs → AllAbove m (and_left k o fs)
+above_one m None k fs l h = h
+above_one m (Some y) k fs l h = (l, h)
+
 pub above_left : {A : Type 0} (f : A → Option A) (m : ℕ) (es : Numbered A) → AllAbove m es → AllAbove m (those_left f es)
 above_left f m [] a = tt
-above_left f m (e ∷ es) a = by (f e.1)
-  where
-    by : (o : Option A) → AllAbove m (and_left e.0 o (those_left f es))
-    by None = above_left f m es a.1
-    by (Some y) = (a.0, above_left f m es a.1)
+above_left f m (e ∷ es) a = above_one m (f e.1) e.0 (those_left f es) a.0 (above_left f m es a.1)
 
 none_above : {A : Type 0} (n : ℕ) (es : Numbered A) → AllAbove n es → at n es ≡ None
 none_above n [] a = refl
@@ -258,8 +258,8 @@ silent_on now n x o old mid new rises known streams silent fewer h k y is due = 
   | inl own ↦ inr (ap (λ j. has (numbered j) new.turns.waiters) own ∙ silent)
   | inr other ↦ elim (h k y is due) [
     | inl stands ↦ inl (ap (λ es. at k es) streams ∙ left_other n k x o mid.state.streams rises known other ∙ stands)
-    | inr gone ↦ inr (elim (cases_Bool (has (numbered k) new.turns.waiters)) [
-      | inl waits ↦ absurd (true≢false (sym (fewer k waits) ∙ gone))
+    | inr past ↦ inr (elim (cases_Bool (has (numbered k) new.turns.waiters)) [
+      | inl waits ↦ absurd (true≢false (sym (fewer k waits) ∙ past))
       | inr fine ↦ fine
     ])
   ]

@@ -37,7 +37,11 @@ use Rattle.hrana_hub.specs.Arrivals.{nothing, quiet, tells, with_conn, shut}
 use Rattle.hrana_hub.specs.Polled.{Polled, PollFell, with_entry, with_streams, with_task, passed, seen_of, reply_in, is_over, polled, streams_left, replied, dropped, is_closed, first_id, answer, FellShort}
 use Rattle.hrana_hub.specs.Settled.{PollsStream, Settles, PollEnds, Tells, Drops, after_told, after_fall, after_passed}
 use Rattle.hrana_hub.specs.Calls.{is_heard}
-use Rattle.hrana_hub.specs.Step.{is_short, closes_short, Goes, Heard, PolledAt, PollSteps}
+use Rattle.hrana_hub.specs.Step.{is_short, closes_short, Goes, Heard, PolledBy, PolledAt, PollFellOn, PollFellBy, PollFellAt, PollSteps}
+use Rattle.hrana_hub.specs.ExchangeSettled.{Ends}
+use Rattle.hrana_hub.specs.declared.sessions.Issued.{Issued}
+use Rattle.hrana_hub.specs.declared.sessions.Running.{Running as Exchange}
+use Rattle.hrana_hub.specs.declared.sessions.Session.TheVariants.{Resting, Running}
 use Rattle.hrana_hub.proofs.Adding.{Alike, adds_none, adds_from, adds_one}
 use Rattle.hrana_hub.proofs.EntryLemmas.{at_put, put_same, put_put, without_put, length_put}
 use Rattle.hrana_hub.proofs.Waiting.{waiters_put}
@@ -254,7 +258,7 @@ pub record Known (h : Seen) (n c : ℕ) : Type 0 where
   pub conn_at : at c h.state.conns ≡ Some conn
   pub stream_at : at n h.state.streams ≡ Some stream
 
-some_of : {A : Type 0} (o : Option A) → IsSome o → (x : A) × (o ≡ Some x)
+pub some_of : {A : Type 0} (o : Option A) → IsSome o → (x : A) × (o ≡ Some x)
 some_of None e = absurd (true≢false (sym e))
 some_of (Some x) e = (x, refl)
 
@@ -395,7 +399,7 @@ settle_told old new n c id reply out added given first t k x ek ex =
 
 -- ---- want of memory before the engine is called
 
-early : (shared : Bool) (seen : Sees) (old : Task) (asks : List Work) → is_waiting asks ≡ true → PollsAsks shared seen old asks None (Ready stepped.Broke) (with_asks old old.session.state [])
+pub early : (shared : Bool) (seen : Sees) (old : Task) (asks : List Work) → is_waiting asks ≡ true → PollsAsks shared seen old asks None (Ready stepped.Broke) (with_asks old old.session.state [])
 early shared seen old [] e = absurd (cc)
 early shared seen old (w ∷ rest) e = record {
   advanced = _;
@@ -418,7 +422,6 @@ early_fall shared h n c x k out new turn waits given left = short out _ _ (ap is
   left = left;
 })
 
--- ---- a stream that isn't polled
 
 unheard : (s : State) (o : Option Conn) (Does : Conn → Type 0) (out : Outs) → is_heard o ≡ false → out ≡ nothing → Heard s o Does [] out s
 unheard s None Does out e given = record { none = refl; given = given; left = refl }
@@ -428,14 +431,51 @@ unheard s (Some k) Does out e given = by k.closing e
     by true f = record { none = refl; given = given; left = refl }
     by false f = absurd (true≢false f)
 
+-- ---- a poll that isn't one of a stream with something to do
+
 pub polls_unknown : (shared : Bool) (s : State) (n : ℕ) (out : Outs) → out ≡ nothing → at n s.streams ≡ None → PollSteps shared s n [] out s
 polls_unknown shared s n out given none = found out _ _ (ap is_short given) (subst (λ o. PolledAt shared s n o [] out s) (sym none) (record { none = refl; given = given; left = refl }))
 
 pub polls_idle : (shared : Bool) (s : State) (n : ℕ) (x : Stream) (out : Outs) → out ≡ nothing → at n s.streams ≡ Some x → is_waiting x.task.asks ≡ false → PollSteps shared s n [] out s
 polls_idle shared s n x out given known idle = found out _ _ (ap is_short given) (subst (λ o. PolledAt shared s n o [] out s) (sym known)
-    (subst (λ b. MatchBool b (Heard s (at x.conn s.conns) (λ k. Polled shared s n x.conn x k [] out s) [] out s) (Goes (quiet s) [] out s)) (sym idle) (record { none = refl; given = given; left = refl })))
+    (subst (λ b. MatchBool b (PolledBy x.session shared s n x [] out s) (Goes (quiet s) [] out s)) (sym idle) (record { none = refl; given = given; left = refl })))
 
-pub polls_unheard : (shared : Bool) (s : State) (n : ℕ) (x : Stream) (out : Outs) → out ≡ nothing → at n s.streams ≡ Some x → is_waiting x.task.asks ≡ true → is_heard (at x.conn s.conns) ≡ false → PollSteps shared s n [] out s
-polls_unheard shared s n x out given known waits deaf = found out _ _ (ap is_short given) (subst (λ o. PolledAt shared s n o [] out s) (sym known)
-    (subst (λ b. MatchBool b (Heard s (at x.conn s.conns) (λ k. Polled shared s n x.conn x k [] out s) [] out s) (Goes (quiet s) [] out s)) (sym waits)
-    (unheard s (at x.conn s.conns) (λ k. Polled shared s n x.conn x k [] out s) out deaf given)))
+-- ---- a stream that has something to do
+
+polled_at : (shared : Bool) (s : State) (n : ℕ) (x : Stream) (added : List Entry) (out : Outs) (new : State) → at n s.streams ≡ Some x → is_waiting x.task.asks ≡ true → PolledBy x.session shared s n x added out new → PolledAt shared s n (at n s.streams) added out new
+polled_at shared s n x added out new known waits h = subst (λ o. PolledAt shared s n o added out new) (sym known) (subst (λ b. MatchBool b (PolledBy x.session shared s n x added out new) (Goes (quiet s) added out new)) (sym waits) h)
+
+fell_at : (shared : Bool) (s : State) (n : ℕ) (x : Stream) (added : List Entry) (out : Outs) (new : State) → at n s.streams ≡ Some x → is_waiting x.task.asks ≡ true → PollFellBy x.session shared s n x added out new → PollFellAt shared s n (at n s.streams) added out new
+fell_at shared s n x added out new known waits h = subst (λ o. PollFellAt shared s n o added out new) (sym known) (waits, h)
+
+-- by what it found
+pub polls_by : (shared : Bool) (s : State) (n : ℕ) (x : Stream) (added : List Entry) (out : Outs) (new : State) → at n s.streams ≡ Some x → is_waiting x.task.asks ≡ true
+    → MatchBool (is_short out) (PollFellBy x.session shared s n x added out new) (PolledBy x.session shared s n x added out new) → PollSteps shared s n added out new
+polls_by shared s n x added out new known waits h = match_both (is_short out) _ _ _ _ (fell_at shared s n x added out new known waits) (polled_at shared s n x added out new known waits) h
+
+-- none of its exchanges runs
+pub polls_nobody : (shared : Bool) (s : State) (n : ℕ) (x : Stream) (baton : Option Issued) (out : Outs) → out ≡ nothing → at n s.streams ≡ Some x → is_waiting x.task.asks ≡ true → x.session ≡ Some (Resting baton) → PollSteps shared s n [] out s
+polls_nobody shared s n x baton out given known waits rests = found out _ _ (ap is_short given) (polled_at shared s n x [] out s known waits (subst (λ v. PolledBy v shared s n x [] out s) (sym rests) (record { none = refl; given = given; left = refl })))
+
+pub polls_unheard : (shared : Bool) (s : State) (n : ℕ) (x : Stream) (out : Outs) → out ≡ nothing → at n s.streams ≡ Some x → is_waiting x.task.asks ≡ true → x.session ≡ None → is_heard (at x.conn s.conns) ≡ false → PollSteps shared s n [] out s
+polls_unheard shared s n x out given known waits own deaf = found out _ _ (ap is_short given) (polled_at shared s n x [] out s known waits
+    (subst (λ v. PolledBy v shared s n x [] out s) (sym own) (unheard s (at x.conn s.conns) (λ k. Polled shared s n x.conn x k [] out s) out deaf given)))
+
+fell_on : (shared : Bool) (s : State) (n : ℕ) (x : Stream) (k : Conn) (added : List Entry) (out : Outs) (new : State) → x.session ≡ None → at x.conn s.conns ≡ Some k → k.closing ≡ false → PollFell shared s n x.conn x k added out new → PollFellBy x.session shared s n x added out new
+fell_on shared s n x k added out new own known heard h = subst (λ v. PollFellBy v shared s n x added out new) (sym own) (subst (λ o. PollFellOn shared s n x o added out new) (sym known) (heard, h))
+
+polled_on : (shared : Bool) (s : State) (n : ℕ) (x : Stream) (k : Conn) (added : List Entry) (out : Outs) (new : State) → x.session ≡ None → at x.conn s.conns ≡ Some k → k.closing ≡ false → Polled shared s n x.conn x k added out new → PolledBy x.session shared s n x added out new
+polled_on shared s n x k added out new own known heard h = subst (λ v. PolledBy v shared s n x added out new) (sym own)
+    (subst (λ o. Heard s o (λ l. Polled shared s n x.conn x l added out new) added out new) (sym known) (subst (λ b. MatchBool b (Goes (quiet s) added out new) (Polled shared s n x.conn x k added out new)) (sym heard) h))
+
+-- its connection is heard
+pub polls_heard : (shared : Bool) (s : State) (n : ℕ) (x : Stream) (k : Conn) (added : List Entry) (out : Outs) (new : State) → at n s.streams ≡ Some x → is_waiting x.task.asks ≡ true → x.session ≡ None → at x.conn s.conns ≡ Some k → k.closing ≡ false
+    → PollEnds shared s n x.conn x k added out new → PollSteps shared s n added out new
+polls_heard shared s n x k added out new known waits own there heard h =
+    polls_by shared s n x added out new known waits (match_both (is_short out) _ _ _ _ (fell_on shared s n x k added out new own there heard) (polled_on shared s n x k added out new own there heard) h)
+
+-- its exchange runs
+pub polls_session : (shared : Bool) (s : State) (n : ℕ) (x : Stream) (e : Exchange) (added : List Entry) (out : Outs) (new : State) → at n s.streams ≡ Some x → is_waiting x.task.asks ≡ true → x.session ≡ Some (Running e)
+    → Ends shared s n x e added out new → PollSteps shared s n added out new
+polls_session shared s n x e added out new known waits runs h =
+    polls_by shared s n x added out new known waits (match_both (is_short out) _ _ _ _ (subst (λ v. PollFellBy v shared s n x added out new) (sym runs)) (subst (λ v. PolledBy v shared s n x added out new) (sym runs)) h)

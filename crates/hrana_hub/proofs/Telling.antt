@@ -52,58 +52,9 @@ nothing_more t =
 pub told_same : (n : ℕ) (t : Story) (event : Event) (s : State) (added : List Entry) (out : Outs) (new : State) → expires_by n event s new ≡ false → ids_by n event s new ≡ [] → asks_by n event s new ≡ [] → used_by n event added ≡ [] → told_by n event out ≡ [] → told_on n t event s added out new ≡ t
 told_same n t event s added out new e a b c d = told_is n t event s added out new [] [] [] [] e a b c d ∙ nothing_more t
 
--- a stream that is as before doesn't expire
-pub expires_none : (n : ℕ) (event : Event) (s new : State) → at n new.streams ≡ at n s.streams → expires_by n event s new ≡ false
-expires_none n (Moment moment) s new e = ap (λ o. is_begun_in (at n s.streams) && not (is_begun_in o)) e ∙ by (is_begun_in (at n s.streams))
-  where
-    by : (b : Bool) → (b && not b) ≡ false
-    by true = refl
-    by false = refl
-expires_none n (Opened c) s new e = refl
-expires_none n (Text c text) s new e = refl
-expires_none n (Binary c) s new e = refl
-expires_none n (Lost c) s new e = refl
-expires_none n (event.Poll stream) s new e = refl
-expires_none n Stop s new e = refl
-
-drop_same : {A : Type 0} (xs : List A) → drop (length xs) xs ≡ []
-drop_same [] = refl
-drop_same (x ∷ xs) = drop_same xs
-
 pub drop_behind : {A : Type 0} (xs ys : List A) → drop (length xs) (xs ++ ys) ≡ ys
 drop_behind [] ys = refl
 drop_behind (x ∷ xs) ys = drop_behind xs ys
-
-pub ids_none : (n : ℕ) (event : Event) (s new : State) → at n new.streams ≡ at n s.streams → ids_by n event s new ≡ []
-ids_none n (Text c text) s new e = ap (λ o. drop (length (ids_in (at n s.streams))) (ids_in o)) e ∙ drop_same (ids_in (at n s.streams))
-ids_none n (Opened c) s new e = refl
-ids_none n (Binary c) s new e = refl
-ids_none n (Lost c) s new e = refl
-ids_none n (event.Poll stream) s new e = refl
-ids_none n (Moment moment) s new e = refl
-ids_none n Stop s new e = refl
-
-pub asks_none : (n : ℕ) (event : Event) (s new : State) → at n new.streams ≡ at n s.streams → asks_by n event s new ≡ []
-asks_none n (Text c text) s new e = ap (λ o. drop (length (asks_in (at n s.streams))) (asks_in o)) e ∙ drop_same (asks_in (at n s.streams))
-asks_none n (Opened c) s new e = refl
-asks_none n (Binary c) s new e = refl
-asks_none n (Lost c) s new e = refl
-asks_none n (event.Poll stream) s new e = refl
-asks_none n (Moment moment) s new e = refl
-asks_none n Stop s new e = refl
-
-cond_nil : {A : Type 0} (b : Bool) → ◌≡◌ {A = List A} (cond b [] []) []
-cond_nil true = refl
-cond_nil false = refl
-
-pub used_none : (n : ℕ) (event : Event) (added : List Entry) → added ≡ [] → used_by n event added ≡ []
-used_none n (event.Poll stream) added e = ap (λ l. cond (nat_eq stream.0 n) l []) e ∙ cond_nil (nat_eq stream.0 n)
-used_none n (Opened c) added e = refl
-used_none n (Text c text) added e = refl
-used_none n (Binary c) added e = refl
-used_none n (Lost c) added e = refl
-used_none n (Moment moment) added e = refl
-used_none n Stop added e = refl
 
 -- ---- what was told is the front
 

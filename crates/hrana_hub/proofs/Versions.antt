@@ -3,6 +3,7 @@ use Rattle.std.proofs.Common.{◌≡◌, ◌≤◌, ◌<◌, ◌+◌, ℕ, Bool,
 use Rattle.std.proofs.lemmas.Bool.{ltb-true}
 use Rattle.std.proofs.lemmas.List.Elements.{All-nil, All-cons, All-append}
 use Rattle.http_wire.specs.declared.outs.Outs.{Outs}
+use Rattle.engine_core.specs.Draws.{Draw}
 use Rattle.engine_core.specs.declared.entries.Entry.{Entry}
 use Rattle.engine_core.specs.declared.entries.Entry.TheVariants as entry
 use Rattle.engine_core.specs.declared.entries.Undo.{Undo}
@@ -22,7 +23,8 @@ use Rattle.hrana_hub.specs.Run.{RunFrom, start, more}
 use Rattle.hrana_hub.specs.Step.{counted}
 use Rattle.hrana_hub.specs.Stories.{BeganAt, AreVersions}
 use Rattle.hrana_hub.specs.Versions.{HasVersions, RunsHaveVersions}
-use Rattle.hrana_hub.proofs.Changes.{Change, rests, comes, marks, joins, asks_for, polls, falls, loses, expires, ends, step_changes}
+use Rattle.hrana_hub.proofs.Touching.{Adding, arrives, polled, lost}
+use Rattle.hrana_hub.proofs.Changes.{Change, rests, comes, marks, joins, asks_for, polls, falls, touches, loses, expires, ends, step_changes}
 
 -- ---- the units that an event begins
 
@@ -86,6 +88,13 @@ module _ (number next : ℕ) where
 begins_ends : (s : State) (added ended : List Entry) (new : State) → added ≡ ended → new.next ≡ s.next → All (BeginsAt s.next new.next) ended → Begins s added new
 begins_ends s added ended new is same h = record { rises = omega (arith, same); units = subst (All (BeginsAt s.next new.next)) (sym is) h }
 
+-- ---- exchanges
+
+adding_begins : {event : Event} → BegunAreNext → (shared : Bool) (s : State) (n : ℕ) (added : List Entry) (new : State) → Adding shared s n added new event → Begins s added new
+adding_begins law shared s n added new (arrives c ask none next) = begins_none s added new none next
+adding_begins law shared s n added new (polled stream x by entry result task here known p one next) = poll_begins s (seen_of by s) entry added new refl one next (law shared (seen_of by s) x.task entry result task p)
+adding_begins law shared s n added new (lost c ended next) = begins_ends s added _ new ended next (end_begins s.next new.next undo.Lost (at n s.streams))
+
 -- ---- every step
 
 pub change_begins : {event : Event} → BegunAreNext → (shared : Bool) (s : State) (added : List Entry) (out : Outs) (new : State) → Change shared s added out new event → Begins s added new
@@ -94,8 +103,9 @@ change_begins law shared s added out new (comes c closing none unknown few left)
 change_begins law shared s added out new (marks event c k k' none silent heard marked left) = begins_none s added new none (ap (λ (t : State). t.next) left)
 change_begins law shared s added out new (joins c text k id none heard unnamed few left) = begins_none s added new none (ap (λ (t : State). t.next) left)
 change_begins law shared s added out new (asks_for c text k stream n x id what w none heard few named known served left) = begins_none s added new none (ap (λ (t : State). t.next) left)
-change_begins law shared s added out new (polls stream x k known waits heard p) = poll_begins s (seen_of p.by s) p.entry added new refl p.one (ap (λ (t : State). t.next) p.left) (law shared (seen_of p.by s) x.task p.entry p.result p.task p.polls)
-change_begins law shared s added out new (falls stream x k known heard p) = poll_begins s (seen_of p.by s) p.entry added new refl p.one (ap (λ (t : State). t.next) p.left) (law shared (seen_of p.by s) x.task p.entry p.result p.task p.polls)
+change_begins law shared s added out new (polls stream x k known own waits heard p) = poll_begins s (seen_of p.by s) p.entry added new refl p.one (ap (λ (t : State). t.next) p.left) (law shared (seen_of p.by s) x.task p.entry p.result p.task p.polls)
+change_begins law shared s added out new (falls stream x k known own heard p) = poll_begins s (seen_of p.by s) p.entry added new refl p.one (ap (λ (t : State). t.next) p.left) (law shared (seen_of p.by s) x.task p.entry p.result p.task p.polls)
+change_begins law shared s added out new (touches event n adds silent opened touch) = adding_begins law shared s n added new adds
 change_begins law shared s added out new (loses c k known ended left) = begins_ends s added _ new ended (ap (λ (t : State). t.next) left) (ends_begin s.next new.next undo.Lost k.streams s.streams)
 change_begins law shared s added out new (expires moment ended left) = begins_ends s added _ new ended (ap (λ (t : State). t.next) left) (expiries_begin s.next new.next moment s.streams)
 change_begins law shared s added out new (ends ended left) = begins_ends s added _ new ended (ap (λ (t : State). t.next) left) (all_begin s.next new.next undo.Stop s.streams)
@@ -135,16 +145,16 @@ module _ (law : BegunAreNext) where
   step_begins : (token : Option (List ℕ)) (shared : Bool) (s : State) (added : List Entry) (out : Outs) (new : State) (event : Event) → Change shared (counted s) added out new event → Begins s added new
   step_begins token shared s added out new event change = (let h = change_begins law shared (counted s) added out new change in record { rises = h.rises; units = h.units })
 
-  are_others : {token : Option (List ℕ)} {shared : Bool} {first : State} {events : List Event} {entries : List (List Entry)} {outs : List Outs} {s : State} (run : RunFrom token shared first events entries outs s) (h g : ℕ → ℕ) → Agree s.next h g → AreVersions h run → AreVersions g run
+  are_others : {token : Option (List ℕ)} {shared : Bool} {first : State} {events : List Event} {drawn : List (List Draw)} {entries : List (List Entry)} {outs : List Outs} {s : State} (run : RunFrom token shared first events drawn entries outs s) (h g : ℕ → ℕ) → Agree s.next h g → AreVersions h run → AreVersions g run
   are_others start h g same are = tt
-  are_others {token} {shared} (more {s = before} run event added out new fit step) h g same are =
-      let b : Begins before added new = step_begins token shared before added out new event (step_changes token shared before event added out new fit step) in
+  are_others {token} {shared} (more {s = before} run event draws added out new fit step) h g same are =
+      let b : Begins before added new = step_begins token shared before added out new event (step_changes token shared before event draws added out new fit step) in
       (are_others run h g (λ unit l. same unit (omega (arith, l, b.rises))) are.0, agree_on h g before.next new.next before.version added same b.units are.1)
 
-  versions_of : {token : Option (List ℕ)} {shared : Bool} {first : State} {events : List Event} {entries : List (List Entry)} {outs : List Outs} {s : State} (run : RunFrom token shared first events entries outs s) → HasVersions run
+  versions_of : {token : Option (List ℕ)} {shared : Bool} {first : State} {events : List Event} {drawn : List (List Draw)} {entries : List (List Entry)} {outs : List Outs} {s : State} (run : RunFrom token shared first events drawn entries outs s) → HasVersions run
   versions_of start = record { had = λ unit. 0; are = tt }
-  versions_of {token} {shared} (more {s = before} run event added out new fit step) =
-      let b : Begins before added new = step_begins token shared before added out new event (step_changes token shared before event added out new fit step) in
+  versions_of {token} {shared} (more {s = before} run event draws added out new fit step) =
+      let b : Begins before added new = step_begins token shared before added out new event (step_changes token shared before event draws added out new fit step) in
       let h = versions_of run in
       let g : ℕ → ℕ = and_then before.next h.had before.version in
       record {
@@ -153,4 +163,4 @@ module _ (law : BegunAreNext) where
       }
 
   pub runs_have_versions : RunsHaveVersions
-  runs_have_versions token shared first events entries outs s run = versions_of run
+  runs_have_versions token shared first events drawn entries outs s run = versions_of run

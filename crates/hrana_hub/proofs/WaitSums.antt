@@ -4,8 +4,7 @@ use Rattle.std.specs.Ordering.{is_eq, match_ordering}
 use Rattle.std.specs.declared.cmp.Ordering.{Ordering}
 use Rattle.std.specs.declared.cmp.Ordering.TheVariants.{Less, Equal, Greater}
 use Rattle.std.specs.BTreeMap.{is_at}
-use Rattle.hrana_hub.specs.Maps.{Numbered, at, put, placed, without, each}
-use Rattle.hrana_hub.specs.Moments.{is_due, expired, after}
+use Rattle.hrana_hub.specs.Maps.{Numbered, at, put, placed, without}
 use Rattle.hrana_hub.specs.State.{Stream}
 use Rattle.hrana_hub.specs.Ended.{let_go}
 use Rattle.hrana_hub.specs.Laws.{waits_of}
@@ -22,6 +21,14 @@ share_none c x other = ap (λ b. cond b (length x.waits) 0) (ne_eqb x.conn c oth
 
 pub share_all : (c : ℕ) (x : Stream) → x.conn ≡ c → share c x ≡ length x.waits
 share_all c x own = ap (λ b. cond b (length x.waits) 0) (eq-eqb x.conn c own)
+
+-- where none of its requests waits with an id
+pub share_idle : (c : ℕ) (x : Stream) → x.waits ≡ [] → share c x ≡ 0
+share_idle c x idle = ap (λ ids. cond (nat_eq x.conn c) (length ids) 0) idle ∙ by (nat_eq x.conn c)
+  where
+    by : (b : Bool) → ◌≡◌ {A = ℕ} (cond b 0 0) 0
+    by true = refl
+    by false = refl
 
 pub sum_put : (c n : ℕ) (x y : Stream) (es : Numbered Stream) → at n es ≡ Some x → waits_of c (put n y es) + share c x ≡ waits_of c es + share c y
 sum_put c n x y [] f = absurd (none_some f)
@@ -51,27 +58,14 @@ sum_placed c n y (e ∷ es) f = by (nat_cmp n e.0) (sum_placed c n y es) f
     by Equal later g = absurd (none_some (sym g))
     by Greater later g = omega (arith, later g)
 
--- streams that have become others with as many requests
-pub sum_each : (c : ℕ) (f : Stream → Stream) → ((x : Stream) → share c (f x) ≡ share c x) → (es : Numbered Stream) → waits_of c (each f es) ≡ waits_of c es
-sum_each c f same [] = refl
-sum_each c f same (e ∷ es) = omega (arith, same e.1, sum_each c f same es)
-
--- what expires keeps its ids
-pub after_share : (c moment : ℕ) (x : Stream) → share c (after moment x) ≡ share c x
-after_share c moment x = by (is_due moment x)
-  where
-    by : (b : Bool) → share c (cond b (expired x) x) ≡ share c x
-    by true = refl
-    by false = refl
-
--- where no stream is of the connection, none of its requests waits
-pub sum_none : (c : ℕ) (es : Numbered Stream) → Rises es → ((n : ℕ) (x : Stream) → at n es ≡ Some x → x.conn ≢ c) → waits_of c es ≡ 0
+-- where none of its requests waits on any stream
+pub sum_none : (c : ℕ) (es : Numbered Stream) → Rises es → ((n : ℕ) (x : Stream) → at n es ≡ Some x → share c x ≡ 0) → waits_of c es ≡ 0
 sum_none c [] r h = refl
 sum_none c (e ∷ es) r h =
     let rest : without e.0 (e ∷ es) ≡ es = without_first e es in
     let rises : Rises es = subst (λ (fs : Numbered Stream). Rises fs) rest (rising_without e.0 (e ∷ es) r) in
     let later : waits_of c es ≡ 0 = sum_none c es rises (λ n x f. h n x (without_cases e.0 n x (e ∷ es) r (ap (λ fs. at n fs) rest ∙ f)).1) in
-    omega (arith, later, share_none c e.1 (h e.0 e.1 (at_first e es)))
+    omega (arith, later, h e.0 e.1 (at_first e es))
 
 -- streams of other connections are let go of
 pub sum_let_go : (c : ℕ) (ns : List ℕ) (es : Numbered Stream) → Rises es → ((n : ℕ) → Contains ns n → (x : Stream) → at n es ≡ Some x → x.conn ≢ c) → waits_of c (let_go ns es) ≡ waits_of c es

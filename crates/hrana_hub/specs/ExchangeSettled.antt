@@ -1,5 +1,5 @@
 -- A poll of a stream whose exchange runs, before what it gave is told, and what is left once it is told.
-use Rattle.std.specs.Prelude.{◌≡◌, ◌≢◌, ℕ, Bool, List, [], Option, None, Some, Result, Ok, Err, MatchBool}
+use Rattle.std.specs.Prelude.{◌≡◌, ◌≢◌, ◌<◌, ◌^◌, ℕ, Bool, List, [], Option, None, Some, Result, Ok, Err, MatchBool}
 use Rattle.hrana_value.specs.declared.failures.NoMemory.{NoMemory}
 use Rattle.stream_requests.specs.Results.{IsPipelineReply}
 use Rattle.stream_requests.specs.declared.replies.Reply.{Reply}
@@ -20,6 +20,11 @@ use Rattle.hrana_hub.specs.Askers.{running_of}
 use Rattle.hrana_hub.specs.Exchanges.{SessionPolled, SessionFell, replies_to, gives_up, concludes, empty_503, in_session, issues, without_exchange, next_baton}
 use Rattle.hrana_hub.specs.Polled.{reply_in, FellShort, passed, dropped, with_streams}
 use Rattle.hrana_hub.specs.Step.{is_short}
+
+-- one baton more may be issued: no more than one was for each event before this
+pub record MayIssue (s : State) : Type 0 where
+  pub batons : s.issued < s.events
+  pub few : s.events < 2 ^ 62
 
 -- this exchange of the stream runs
 pub record IsRunning (s : State) (n : ℕ) (x : Stream) (e : Exchange) : Type 0 where

@@ -29,7 +29,7 @@ impl Hub {
     {
         conn > 0
             && !self.knows(conn)
-            && self.conns.len() + self.exchanges.len() < MAX_CONNECTIONS
+            && self.exchanges.len() < MAX_CONNECTIONS.saturating_sub(self.conns.len())
     }
 
     fn may_come(&self, event: &Event) -> bool

@@ -13,7 +13,7 @@ ghost use Rattle.hrana_hub.specs.Adds.{Adds};
 ghost use Rattle.hrana_hub.specs.Agrees.{HubAgrees, IsAhead};
 ghost use Rattle.hrana_hub.specs.Askers.{running_of};
 ghost use Rattle.hrana_hub.specs.Exchanges.{answers_with, empty_503, leaves, in_session, without_exchange, next_baton};
-ghost use Rattle.hrana_hub.specs.ExchangeSettled.{IsRunning, IsRunningFor, HasPipelineReply, Settles, Ends, HandsOut, Concludes, given_up, rested};
+ghost use Rattle.hrana_hub.specs.ExchangeSettled.{MayIssue, IsRunning, IsRunningFor, HasPipelineReply, Settles, Ends, HandsOut, Concludes, given_up, rested};
 ghost use Rattle.hrana_hub.specs.Step.{PollSteps};
 ghost use Rattle.hrana_hub.specs.Maps.{at, put};
 ghost use Rattle.hrana_hub.specs.Polled.{with_streams};
@@ -29,7 +29,7 @@ use hrana_value::{NoMemory, StreamNo};
 use http_wire::{HttpAnswer, Outs};
 use pipeline_body::BlankAnswer;
 use stream_requests::Reply;
-use stream_task::{Poll, Stepped, streams_agree};
+use stream_task::{Poll, Stepped, polls_reply_to_pipelines, streams_agree};
 
 impl Hub {
     /// The stream rests without a baton, and its requests are dropped.
@@ -148,7 +148,8 @@ impl Hub {
         running: Running,
     ) -> Result<Outs, NoMemory>
         requires agrees { HubAgrees E.told E.SHARED (E.db engine.old) (E.live engine.old) self.old }
-        requires ahead { IsAhead self.old.state }
+        requires issues { MayIssue self.old.state }
+        requires running { self.old.state.stopped ≡ false }
         requires rests { (x : Stream) → at stream self.old.state.streams ≡ Some x → x.session ≡ Some (Session.Resting None) }
         requires stream { IsSome (at stream self.old.state.streams) }
         ensures adds { Adds E.told E.SHARED E.meaning E.db E.live E.faults engine.old engine.new self.old self.new
@@ -181,7 +182,8 @@ impl Hub {
         reply: Reply,
     ) -> Outs
         requires agrees { HubAgrees E.told E.SHARED (E.db engine.old) (E.live engine.old) self.old }
-        requires ahead { IsAhead self.old.state }
+        requires issues { MayIssue self.old.state }
+        requires running { self.old.state.stopped ≡ false }
         requires kind { IsPipelineReply reply }
         requires rests { (x : Stream) → at stream self.old.state.streams ≡ Some x → x.session ≡ Some (Session.Resting None) }
         requires stream { IsSome (at stream self.old.state.streams) }
@@ -209,7 +211,8 @@ impl Hub {
     /// The stream has replied to the first of the requests of its exchange.
     fn note_reply<E: Engine>(&mut self, engine: &mut E, stream: u64, reply: Reply) -> Outs
         requires agrees { HubAgrees E.told E.SHARED (E.db engine.old) (E.live engine.old) self.old }
-        requires ahead { IsAhead self.old.state }
+        requires issues { MayIssue self.old.state }
+        requires running { self.old.state.stopped ≡ false }
         requires kind { IsPipelineReply reply }
         requires runs { (x : Stream) → at stream self.old.state.streams ≡ Some x → IsSome (running_of x) }
         requires stream { IsSome (at stream self.old.state.streams) }
@@ -235,7 +238,8 @@ impl Hub {
         polled: Poll<Stepped>,
     ) -> Outs
         requires agrees { HubAgrees E.told E.SHARED (E.db engine.old) (E.live engine.old) self.old }
-        requires ahead { IsAhead self.old.state }
+        requires issues { MayIssue self.old.state }
+        requires running { self.old.state.stopped ≡ false }
         requires kind { HasPipelineReply polled }
         requires runs { (x : Stream) → at stream self.old.state.streams ≡ Some x → IsRunningFor conn close x }
         requires stream { IsSome (at stream self.old.state.streams) }
@@ -264,6 +268,7 @@ impl Hub {
     ) -> Outs
         requires agrees { HubAgrees E.told E.SHARED (E.db engine.old) (E.live engine.old) self.old }
         requires ahead { IsAhead self.old.state }
+        requires running { self.old.state.stopped ≡ false }
         requires room { length self.old.state.streams + 2 ≤ self.old.noted.spare }
         requires runs { (x : Stream) → at stream self.old.state.streams ≡ Some x → IsRunningFor conn close x }
         requires stream { IsSome (at stream self.old.state.streams) }
@@ -273,7 +278,7 @@ impl Hub {
         ensures token { self.new.token ≡ self.old.token }
         ensures later { E.faults engine.old ≤ E.faults engine.new }
     {
-
+        polls_reply_to_pipelines();
         let polled = self.poll_stream(engine, stream);
         self.settle_exchange(engine, conn, close, stream, polled)
     }
@@ -288,6 +293,7 @@ impl Hub {
     ) -> Outs
         requires agrees { HubAgrees E.told E.SHARED (E.db engine.old) (E.live engine.old) self.old }
         requires ahead { IsAhead self.old.state }
+        requires running { self.old.state.stopped ≡ false }
         requires waits { (x : Stream) → at stream self.old.state.streams ≡ Some x → is_waiting x.task.asks ≡ true }
         requires runs { (x : Stream) → at stream self.old.state.streams ≡ Some x → IsRunningFor conn close x }
         requires stream { IsSome (at stream self.old.state.streams) }

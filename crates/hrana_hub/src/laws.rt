@@ -27,7 +27,7 @@ pub fn the_dead_add_nothing()
     shut_streams_add_nothing();
 }
 
-/// In every run the replies of each stream are those of its requests, in their order.
+/// In every run the replies of each stream of a connection are those of its requests, in their order.
 pub fn replies_follow_requests()
     ensures { RepliesInOrder }
 {

@@ -1,5 +1,5 @@
 // Polls of streams.
-ghost use Rattle.std.specs.Prelude.{◌≡◌, ◌≤◌, ◌+◌, true, [], Some, IsSome, length, OnOk};
+ghost use Rattle.std.specs.Prelude.{◌≡◌, ◌≤◌, ◌+◌, true, false, None, [], Some, IsSome, length, OnOk};
 ghost use Rattle.stream_requests.specs.declared.replies.Reply.{Reply};
 ghost use Rattle.stream_task.specs.Polls.{is_waiting};
 ghost use Rattle.hrana_hub.specs.Adds.{Adds};
@@ -226,6 +226,7 @@ impl Hub {
     pub(crate) fn poll<E: Engine>(&mut self, engine: &mut E, stream: StreamNo) -> Outs
         requires agrees { HubAgrees E.told E.SHARED (E.db engine.old) (E.live engine.old) self.old }
         requires ahead { IsAhead self.old.state }
+        requires running { self.old.state.stopped ≡ false }
         ensures adds { Adds E.told E.SHARED E.meaning E.db E.live E.faults engine.old engine.new self.old self.new (λ added. PollSteps E.SHARED self.old.state stream.0 added result self.new.state) }
         ensures agrees { HubAgrees E.told E.SHARED (E.db engine.new) (E.live engine.new) self.new }
         ensures token { self.new.token ≡ self.old.token }

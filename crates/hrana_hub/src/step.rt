@@ -1,5 +1,5 @@
 // One event of the hub.
-ghost use Rattle.std.specs.Prelude.{◌≡◌, ◌<◌, ◌≤◌, ◌^◌, true};
+ghost use Rattle.std.specs.Prelude.{◌≡◌, ◌<◌, ◌≤◌, ◌^◌, true, false};
 ghost use Rattle.hrana_hub.specs.Adds.{Adds};
 ghost use Rattle.hrana_hub.specs.Agrees.{HubAgrees, IsAhead};
 ghost use Rattle.hrana_hub.specs.Drawn.{DrawsFrom};
@@ -31,6 +31,7 @@ impl Hub {
     ) -> Outs
         requires may { may_come self.old.state event ≡ true }
         requires ahead { IsAhead self.old.state }
+        requires running { self.old.state.stopped ≡ false }
         requires agrees { HubAgrees E.told E.SHARED (E.db engine.old) (E.live engine.old) self.old }
         ensures adds { DrawsFrom T.drawn T.faults tokens.old tokens.new (λ draws. Adds E.told E.SHARED E.meaning E.db E.live E.faults engine.old engine.new self.old self.new
             (λ added. ComesOf self.old.token E.SHARED self.old.state event draws added result self.new.state)) }

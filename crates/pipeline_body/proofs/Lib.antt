@@ -7,6 +7,7 @@
 --   no_tree_is_two_pipeline_answers, pipeline_answers_are_read    answers/, by AnswerLemmas
 --   no_bytes_have_two_answer_readings             answers/, by AnswerLemmas
 --   encode_pipeline_answer: written, reads_back   sending/, answers/encode_pipeline_answer, by WrittenLemmas
+--   each_request_has_its_result, asks_of_bodies_fit    exchange/, by ExchangeLemmas
 --   Exchange::into_blank_answer, BlankAnswer::with_baton      batons/, by BatonLemmas
 pub mod AnswerLemmas
 pub mod BodyLemmas

@@ -1,5 +1,5 @@
 -- How a request over HTTP is answered: by its route alone, by a refusal, or by the results of a pipeline, one for each of its requests.
-use Rattle.std.specs.Prelude.{◌≡◌, ◌≢◌, ◌≤◌, ◌⊎◌, ℕ, Bool, true, false, bytes_eq, nat_eq, cond, length, drop, map, List, [], ◌∷◌, ◌++◌, Option, None, Some, codes}
+use Rattle.std.specs.Prelude.{◌≡◌, ◌≢◌, ◌≤◌, ◌⊎◌, ℕ, Bool, true, false, bytes_eq, nat_eq, cond, length, drop, map, All, List, [], ◌∷◌, ◌++◌, Option, None, Some, codes}
 use Rattle.serde_json.specs.Written.{compact_text}
 use Rattle.hrana_value.specs.declared.failures.Decline.{Decline}
 use Rattle.hrana_value.specs.declared.failures.Decline.TheVariants as decline
@@ -8,6 +8,8 @@ use Rattle.hrana_stmt.specs.Written.{error_data}
 use Rattle.hrana_stmt.specs.declared.codes.Code.{Code}
 use Rattle.hrana_stmt.specs.declared.codes.Code.TheVariants as code
 use Rattle.stream_requests.specs.declared.asks.Ask.{Ask}
+use Rattle.stream_requests.specs.Asks.{ask_kind, AskFits}
+use Rattle.stream_requests.specs.Results.{IsPipelineKind}
 use Rattle.stream_requests.specs.declared.replies.Reply.{Reply}
 use Rattle.stream_requests.specs.declared.replies.Reply.TheVariants.{Failed}
 use Rattle.http_wire.specs.declared.asks.HttpAsk.{HttpAsk}
@@ -20,6 +22,7 @@ use Rattle.pipeline_body.specs.declared.bodies.BodyFail.{BodyFail}
 use Rattle.pipeline_body.specs.declared.bodies.BodyFail.TheVariants.{NoMemory}
 use Rattle.pipeline_body.specs.declared.bodies.PipeAsk.{PipeAsk}
 use Rattle.pipeline_body.specs.declared.bodies.PipeAsk.TheVariants as pipe
+use Rattle.pipeline_body.specs.declared.bodies.PipelineBody.{PipelineBody}
 use Rattle.pipeline_body.specs.declared.exchange.Asked.{Asked}
 use Rattle.pipeline_body.specs.declared.exchange.Asked.TheVariants.{Answered, Pipeline}
 use Rattle.pipeline_body.specs.declared.routes.Route.{Route}
@@ -135,3 +138,9 @@ results_of (pipe.Ask ask ∷ asks) (reply ∷ replies) = reply ∷ results_of as
 abbrev pub EachHasItsResult : Type 0
 EachHasItsResult = (asks : List PipeAsk) (replies : List Reply) → length replies ≤ length (asked_in asks)
     → ((after replies (begins asks)).results ≡ results_of asks replies) × (is_over (after replies (begins asks)) ≡ nat_eq (length replies) (length (asked_in asks)))
+
+-- ---- the law of requests
+
+-- what the stream is asked by a body is of kinds that a pipeline may ask, and breaks no limit
+abbrev pub AsksOfBodiesFit : Type 0
+AsksOfBodiesFit = (bytes : List ℕ) (body : PipelineBody) → IsBody bytes body → All (λ a. IsPipelineKind (ask_kind a) × AskFits a) (asked_in body.asks)

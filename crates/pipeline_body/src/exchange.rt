@@ -2,12 +2,12 @@
 ghost use Rattle.std.specs.Prelude.{◌≡◌, ◌≢◌, ◌++◌, [], Some, map, All, IfOk, OnOk};
 ghost use Rattle.stream_requests.specs.Results.{IsPipelineReply};
 ghost use Rattle.pipeline_body.specs.Batons.{blank};
-ghost use Rattle.pipeline_body.specs.Exchanges.{IsAsked, IsUnreadable, EachHasItsResult, Progress, begins, asked_in, answered, passed, declined, is_over, pipeline_answer, code_of_decline, place_of};
+ghost use Rattle.pipeline_body.specs.Exchanges.{IsAsked, IsUnreadable, EachHasItsResult, AsksOfBodiesFit, Progress, begins, asked_in, answered, passed, declined, is_over, pipeline_answer, code_of_decline, place_of};
 
 use crate::answers::encode_pipeline_answer;
 use crate::batons::{BlankAnswer, blank_answer};
 use crate::bodies::{BodyFail, PipeAsk, PipeAsks, PipelineAnswer, PipelineBody, Replies};
-use crate::pipelines::decode_pipeline;
+use crate::pipelines::{decode_pipeline, fitting_asks_are_taken};
 use crate::routes::{bytes_of, error_answer};
 use hrana_stmt::{Code, wire_error};
 use hrana_value::{Decline, List, NoMemory, Txt};
@@ -180,3 +180,10 @@ impl Exchange {
 pub fn each_request_has_its_result()
     ensures { EachHasItsResult }
 {}
+
+/// What a stream is asked by a body is of kinds that a pipeline may ask, and breaks no limit.
+pub fn asks_of_bodies_fit()
+    ensures { AsksOfBodiesFit }
+{
+    fitting_asks_are_taken();
+}

@@ -19,7 +19,8 @@ pub use answers::{
 pub use batons::BlankAnswer;
 pub use bodies::{BodyFail, PipeAsk, PipeAsks, PipelineAnswer, PipelineBody, Replies};
 pub use exchange::{
-    Asked, Begun, Exchange, code_of_decline, each_request_has_its_result, read_ask,
+    Asked, Begun, Exchange, asks_of_bodies_fit, code_of_decline, each_request_has_its_result,
+    read_ask,
 };
 pub use limits::{MAX_PIPELINE_ASKS, limits_are};
 pub use pipelines::{

@@ -9,6 +9,7 @@
 --   batches_are_meant                         laws/, by BatchLemmas
 --   streams_are_closed_by_closes              laws/, by CloseLemmas
 --   begun_units_are_next                      laws/, by BegunLemmas
+--   polls_reply_to_pipelines                  laws/, by PipelineLemmas
 --   poll_running, advance                     advance/, by AdvanceLemmas over TodoLemmas
 --   StreamTask::end: waits                    task/StreamTask/end, by EndLemmas
 --   run_row                                   statement/run_row, by RowLemmas
@@ -39,3 +40,4 @@ pub mod LeadsLemmas
 pub mod LeadsLaws
 pub mod CloseLemmas
 pub mod BegunLemmas
+pub mod PipelineLemmas

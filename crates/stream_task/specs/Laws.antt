@@ -5,6 +5,7 @@ use Rattle.hrana_batch.specs.Means.{BatchMeans}
 use Rattle.hrana_batch.specs.declared.batches.Batch.{Batch}
 use Rattle.stream_requests.specs.declared.replies.Reply.{Reply}
 use Rattle.stream_requests.specs.declared.replies.Reply.TheVariants as reply
+use Rattle.stream_requests.specs.Results.{IsPipelineReply}
 use Rattle.engine_core.specs.declared.entries.Entry.{Entry}
 use Rattle.engine_core.specs.declared.entries.Entry.TheVariants as entry
 use Rattle.stream_task.specs.Session.{is_shut}
@@ -142,3 +143,10 @@ OutcomesAreMeant batch meant = Unit {0}
 
 abbrev pub BatchesAreMeant : Type 0
 BatchesAreMeant = (shared : Bool) (had : ℕ → ℕ) (batch : Batch) (s : Session) (es : List Entry) → OutcomesAreMeant batch (steps_mean shared had kind.Batch batch.steps [] s es)
+
+-- ---- pipelines
+
+-- each reply that a poll gives is one to a request that a pipeline may ask
+abbrev pub PollsReplyToPipelines : Type 0
+PollsReplyToPipelines = (shared : Bool) (seen : Seen) (old new : Task) (added : Option Entry) (reply : Reply)
+    → Polls shared seen old added (Ready (stepped.Replied reply)) new → IsPipelineReply reply

@@ -1,5 +1,5 @@
 // The laws that join what polls do and what requests mean. Each is a function with an empty body.
-ghost use Rattle.stream_task.specs.Laws.{PollMeans, AskMeans, TaskMeans, ShutAddsNothing, ClosesAlone, BegunAreNext, BatchesAreMeant};
+ghost use Rattle.stream_task.specs.Laws.{PollMeans, AskMeans, TaskMeans, ShutAddsNothing, ClosesAlone, BegunAreNext, BatchesAreMeant, PollsReplyToPipelines};
 
 /// A poll takes its entry from the front of what its request uses, and leaves the rest of what the request means.
 pub fn each_poll_leaves_the_meaning()
@@ -34,4 +34,9 @@ pub fn begun_units_are_next()
 /// The outcomes of a batch are those that the batch means.
 pub fn batches_are_meant()
     ensures { BatchesAreMeant }
+{}
+
+/// Each reply that a poll gives is one to a request that a pipeline may ask.
+pub fn polls_reply_to_pipelines()
+    ensures { PollsReplyToPipelines }
 {}

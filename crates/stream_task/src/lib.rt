@@ -25,7 +25,8 @@ mod work;
 
 pub use laws::{
     batches_are_meant, begun_units_are_next, each_poll_leaves_the_meaning, each_reply_is_meant,
-    replies_stand_in_order, shut_streams_add_nothing, streams_are_closed_by_closes,
+    polls_reply_to_pipelines, replies_stand_in_order, shut_streams_add_nothing,
+    streams_are_closed_by_closes,
 };
 pub use leads::{
     a_joined_stream_stands, ends_lead_on, journal_says_what_stands, polls_lead_on,

@@ -13,8 +13,7 @@ const ONE: &str =
 
 const RAN_ALL: &str = r#"{"request_id":1,"response":{"type":"sequence"},"type":"response_ok"}"#;
 
-const TWO_STEPS: Call =
-    Call::Batch(r#"{"steps":[{"stmt":{"sql_id":7}},{"stmt":{"sql_id":8}}]}"#);
+const TWO_STEPS: Call = Call::Batch(r#"{"steps":[{"stmt":{"sql_id":7}},{"stmt":{"sql_id":8}}]}"#);
 
 const ONE_OF_TWO: &str =
     r#"{"request_id":1,"response":{"result":{"step_errors":[null,{"code":"NO_SQL_ID","message":"sql id is not stored"}],"step_results":[{"affected_row_count":0,"cols":[{"name":"1"}],"last_insert_rowid":null,"rows":[[{"type":"integer","value":"1"}]]},null]},"type":"batch"},"type":"response_ok"}"#;
@@ -76,14 +75,8 @@ fn texts_leave_the_transaction(rt: HostRuntime) -> Result<(), Fail> {
         (Call::Poll, "idle done done auto:"),
         (BEGIN, "done done done deferred:"),
         (IMMEDIATE, "done done done writing: began"),
-        (
-            Call::End(Undo::Lost),
-            "idle STREAM_LOST STREAM_LOST lost:",
-        ),
-        (
-            Call::Close,
-            "done STREAM_NOT_OPEN STREAM_NOT_OPEN closed:",
-        ),
+        (Call::End(Undo::Lost), "idle STREAM_LOST STREAM_LOST lost:"),
+        (Call::Close, "done STREAM_NOT_OPEN STREAM_NOT_OPEN closed:"),
     ] {
         let calls = [first, Call::StoreSql(7, "SELECT 1"), Call::CloseSql(8)];
         let told = played(alloc, NO_CALL, &calls)?;

@@ -1,9 +1,9 @@
 use Rattle.std.proofs.Common.{◌≡◌, ◌∙◌, Some, None, refl, sym, ap}
-use Rattle.hrana_hub.specs.Calls.{is_heard}
 use Rattle.hrana_hub.specs.Maps.{at}
 use Rattle.hrana_hub.specs.State.{Seen}
 use Rattle.hrana_hub.proofs.Adding.{alike, adds_none}
-use Rattle.hrana_hub.proofs.Polling.{polls_unknown, polls_idle, polls_unheard}
+use Rattle.hrana_hub.proofs.ExchangePolling.{nobody_rests}
+use Rattle.hrana_hub.proofs.Polling.{polls_unknown, polls_idle, polls_nobody}
 use Rattle.hrana_hub.proofs.hub.Hub.poll.Goals as goal
 
 pub returns-in_default-clause-adds : goal.returns-in_default-clause-adds
@@ -19,11 +19,10 @@ returns-then-not-is_waiting-clause-adds g c =
     adds_none _ h h _ refl (alike h h refl refl refl)
     (polls_idle g.E.Engine.SHARED h.state c.args.stream.0 c.in-Some.slot.now c.nothing-then-not-is_waiting.result c.nothing-then-not-is_waiting.ensures known (sym c.if-not-is_waiting.ensures))
 
-pub returns-then-not-hears-clause-adds : goal.returns-then-not-hears-clause-adds
-returns-then-not-hears-clause-adds g c =
+pub returns-in-Nobody-clause-adds : goal.returns-in-Nobody-clause-adds
+returns-in-Nobody-clause-adds g c =
     let h = c.args.self.now in
     let x = c.in-Some.slot.now in
     let known : at c.args.stream.0 h.state.streams ≡ Some x = ap (λ (s : Seen). at c.args.stream.0 s.state.streams) (sym c.self.view_is) ∙ sym c.in-Some.ensures.value in
-    let deaf = ap (λ n. is_heard (at n h.state.conns)) (sym c.conn-conn.ensures) ∙ sym c.if-not-hears.ensures in
-    adds_none _ h h _ refl (alike h h refl refl refl)
-    (polls_unheard g.E.Engine.SHARED h.state c.args.stream.0 x c.nothing-then-not-hears.result c.nothing-then-not-hears.ensures known (sym c.if-not-is_waiting.ensures) deaf)
+    let rests = nobody_rests x (sym c.asker.ensures ∙ c.in-Nobody.is) in
+    adds_none _ h h _ refl (alike h h refl refl refl) (polls_nobody g.E.Engine.SHARED h.state c.args.stream.0 x rests.0 c.nothing-in-Nobody.result c.nothing-in-Nobody.ensures known (sym c.if-not-is_waiting.ensures) rests.1)

@@ -1,6 +1,7 @@
 use Rattle.std.proofs.Common.{◌∙◌, ap}
 use Rattle.hrana_hub.specs.Maps.{at}
-use Rattle.hrana_hub.specs.Settled.{PollsStream, with_task}
+use Rattle.hrana_hub.specs.Polled.{with_task}
+use Rattle.hrana_hub.specs.Settled.{PollsStream}
 use Rattle.hrana_hub.proofs.Adding.{adds_on}
 use Rattle.hrana_hub.proofs.Polling.{Known, both_known, is_known, known_left, conns_left, poll_ends}
 use Rattle.hrana_hub.proofs.hub.Hub.poll_placed.Goals as goal
