@@ -34,3 +34,4 @@ pub mod Tied
 pub mod Entering
 pub mod Starting
 pub mod ExchangePolling
+pub mod Hearing

@@ -33,7 +33,7 @@ use hrana_stmt::Code;
 use hrana_value::{List, NoMemory, StreamNo, Txt};
 use http_wire::{HttpAnswer, HttpAsk, Outs};
 use pipeline_body::{
-    Asked, BlankAnswer, Exchange, PipelineBody, error_answer, read_ask,
+    Asked, BlankAnswer, Exchange, PipelineBody, asks_of_bodies_fit, error_answer, read_ask,
     route_answer,
 };
 use std::alloc::Global;
@@ -294,6 +294,7 @@ impl Hub {
         ensures entered { Entered self.old self.new }
         ensures later { T.faults tokens.old ≤ T.faults tokens.new }
     {
+        asks_of_bodies_fit();
         let let_in = accepts(&self.token, &ask.bearer);
         match read_ask(self.alloc, ask, let_in)? {
             Asked::Answered(answer) => Ok(answers_with(conn, answer)),
