@@ -31,6 +31,9 @@ pub mod Versions
 pub mod IdLists
 pub mod Counted
 pub mod Tied
+pub mod Entering
+pub mod Starting
 pub mod ExchangePolling
 pub mod Drawing
 pub mod ExchangeArriving
+pub mod Hearing

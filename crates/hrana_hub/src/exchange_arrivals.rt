@@ -33,7 +33,7 @@ use hrana_stmt::Code;
 use hrana_value::{List, NoMemory, StreamNo, Txt};
 use http_wire::{HttpAnswer, HttpAsk, Outs};
 use pipeline_body::{
-    Asked, BlankAnswer, Exchange, PipelineBody, error_answer, read_ask,
+    Asked, BlankAnswer, Exchange, PipelineBody, asks_of_bodies_fit, error_answer, read_ask,
     route_answer,
 };
 use std::alloc::Global;
@@ -111,9 +111,8 @@ impl Hub {
         ensures { (x : Stream) → at stream self.old.state.streams ≡ Some x
             → self.new ≡ with_state (with_exchange running.conn stream (with_streams (put stream (in_session (Session.Running running) (asks_these queued x)) self.old.state.streams) self.old.state)) self.old }
     {
-        let conn = running.conn;
+        self.exchanges.begin(running.conn, stream);
         self.run_slot(stream, running, queued);
-        self.exchanges.begin(conn, stream);
     }
 
     /// The exchange begins, with these words. Where nothing is left to poll it is answered at once. Takes no memory.
@@ -180,6 +179,7 @@ impl Hub {
         tokens: &mut T,
         prepared: Prepared,
     ) -> Result<Outs, NoMemory>
+        requires prepared { (body : PipelineBody) × IsPreparedFor body prepared }
         requires few { (self.old.state.opened < 2 ^ 62) × (self.old.state.issued < 2 ^ 62) }
         requires fresh { at (self.old.state.opened + 1) self.old.state.streams ≡ None }
         requires store { StoreFits self.old }
@@ -217,6 +217,7 @@ impl Hub {
         prepared: Prepared,
         baton: &Txt,
     ) -> Result<Outs, NoMemory>
+        requires prepared { (body : PipelineBody) × IsPreparedFor body prepared }
         requires few { (self.old.state.opened < 2 ^ 62) × (self.old.state.issued < 2 ^ 62) }
         requires fresh { at (self.old.state.opened + 1) self.old.state.streams ≡ None }
         requires store { StoreFits self.old }
@@ -293,6 +294,7 @@ impl Hub {
         ensures entered { Entered self.old self.new }
         ensures later { T.faults tokens.old ≤ T.faults tokens.new }
     {
+        asks_of_bodies_fit();
         let let_in = accepts(&self.token, &ask.bearer);
         match read_ask(self.alloc, ask, let_in)? {
             Asked::Answered(answer) => Ok(answers_with(conn, answer)),

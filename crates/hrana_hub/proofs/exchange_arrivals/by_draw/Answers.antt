@@ -1,30 +1,14 @@
-use Rattle.std.proofs.Common.{rules, ◌≡◌, ◌<◌, ◌≤◌, ◌+◌, ◌^◌, Bool, Option, None, Some, List, [], ◌∷◌, All, Contains, IfOk, OnOk, OnErr, length, ℕ, ◌-◌, ◌*◌, ◌/◌, ◌%◌, true, false, nat_eq, nat_lt, ◌++◌, slice_index_or, slice_set, bit_and, bit_or, Fits, w8, w32, w64, Bor, MutBor}
-use Rattle.http_wire.specs.declared.outs.HttpAnswer.{HttpAnswer}
-use Rattle.stream_requests.specs.declared.asks.Ask.{Ask}
-use Rattle.pipeline_body.specs.Exchanges.{Progress, asked_in}
-use Rattle.pipeline_body.specs.declared.bodies.PipelineBody.{PipelineBody}
-use Rattle.baton_store.specs.Batons.{HasNone}
-use Rattle.baton_store.specs.Batons.{without as without_session}
-use Rattle.engine_core.specs.Draws.{Draw}
-use Rattle.stream_task.specs.Doing.{MayBeAsked}
-use Rattle.stream_task.specs.Together.{numbered}
-use Rattle.hrana_hub.specs.Arrivals.{IsAfter}
-use Rattle.hrana_hub.specs.Askers.{asks_these}
-use Rattle.hrana_hub.specs.Drawn.{DrawsFrom}
-use Rattle.hrana_hub.specs.Exchanges.{works_of, sessions_in, in_session, with_exchange, IsHeard}
-use Rattle.hrana_hub.specs.ExchangeArrived.{IsReadyFor, IsPreparedFor, Started, HasSession, StoreFits, Entered, GoesOr, GoesPrepared, answer_by}
-use Rattle.hrana_hub.specs.Maps.{at, put, without}
-use Rattle.hrana_hub.specs.Polled.{with_streams}
-use Rattle.hrana_hub.specs.State.{Stream, State, with_state}
-use Rattle.hrana_hub.specs.Step.{ExchangeSteps}
-use Rattle.hrana_hub.specs.declared.limits.TheConstants.{MAX_CONNECTIONS}
-use Rattle.hrana_hub.specs.declared.sessions.Session.{Session}
+use Rattle.std.proofs.Common.{refl, sym, ap, Result, List, ℕ}
+use Rattle.engine_core.specs.Draws.{draw_of}
+use Rattle.engine_core.specs.declared.outside.Failed.{Failed}
+use Rattle.hrana_hub.specs.ExchangeArrived.{answer_by}
+use Rattle.hrana_hub.proofs.Entering.{draws_one}
 use Rattle.hrana_hub.proofs.exchange_arrivals.by_draw.Goals as goal
 
--- src/exchange_arrivals.rt:330:1
 pub returns-in-Ok-clause-drawn : goal.returns-in-Ok-clause-drawn
-returns-in-Ok-clause-drawn g c = ?
+returns-in-Ok-clause-drawn g c =
+    draws_one _ _ _ _ _ c.words.result c.words.ensures.draw c.words.ensures.cause (draw_of c.words.result, refl, sym (ap (λ (r : Result (List ℕ) Failed). answer_by (draw_of r) c.args.drawn c.args.failed) c.in-Ok.is))
 
--- src/exchange_arrivals.rt:330:1
 pub returns-in-Err-clause-drawn : goal.returns-in-Err-clause-drawn
-returns-in-Err-clause-drawn g c = ?
+returns-in-Err-clause-drawn g c =
+    draws_one _ _ _ _ _ c.words.result c.words.ensures.draw c.words.ensures.cause (draw_of c.words.result, refl, sym (ap (λ (r : Result (List ℕ) Failed). answer_by (draw_of r) c.args.drawn c.args.failed) c.in-Err.is))

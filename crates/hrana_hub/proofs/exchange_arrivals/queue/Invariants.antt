@@ -1,25 +1,7 @@
-use Rattle.std.proofs.Common.{◌≡◌, ◌<◌, ◌≤◌, ◌+◌, ◌^◌, Bool, Option, None, Some, List, [], ◌∷◌, All, Contains, IfOk, OnOk, OnErr, length, ℕ, ◌-◌, ◌*◌}
-use Rattle.http_wire.specs.declared.outs.HttpAnswer.{HttpAnswer}
-use Rattle.stream_requests.specs.declared.asks.Ask.{Ask}
-use Rattle.pipeline_body.specs.Exchanges.{Progress, asked_in}
-use Rattle.pipeline_body.specs.declared.bodies.PipelineBody.{PipelineBody}
-use Rattle.baton_store.specs.Batons.{HasNone}
-use Rattle.baton_store.specs.Batons.{without as without_session}
-use Rattle.engine_core.specs.Draws.{Draw}
-use Rattle.stream_task.specs.Doing.{MayBeAsked}
-use Rattle.stream_task.specs.Together.{numbered}
-use Rattle.hrana_hub.specs.Arrivals.{IsAfter}
-use Rattle.hrana_hub.specs.Askers.{asks_these}
-use Rattle.hrana_hub.specs.Drawn.{DrawsFrom}
-use Rattle.hrana_hub.specs.Exchanges.{works_of, sessions_in, in_session, with_exchange, IsHeard}
-use Rattle.hrana_hub.specs.ExchangeArrived.{IsReadyFor, IsPreparedFor, Started, HasSession, StoreFits, Entered, GoesOr, GoesPrepared, answer_by}
-use Rattle.hrana_hub.specs.Maps.{at, put, without}
-use Rattle.hrana_hub.specs.Polled.{with_streams}
-use Rattle.hrana_hub.specs.State.{Stream, State, with_state}
-use Rattle.hrana_hub.specs.Step.{ExchangeSteps}
-use Rattle.hrana_hub.specs.declared.limits.TheConstants.{MAX_CONNECTIONS}
-use Rattle.hrana_hub.specs.declared.sessions.Session.{Session}
+use Rattle.std.proofs.Common.{◌≡◌, ◌++◌}
+use Rattle.hrana_hub.specs.Exchanges.{works_of}
 use Rattle.hrana_hub.proofs.exchange_arrivals.queue.Given as goal
 
+-- the requests so far, and those that are left
 abbrev pub invariant-loop-ask : goal.invariant-loop-ask
-invariant-loop-ask l = ?
+invariant-loop-ask l = works_of l.fn.asks ≡ l.queued ++ works_of l.ask-iterator.rest.items

@@ -1,26 +1,22 @@
-use Rattle.std.proofs.Common.{rules, ◌≡◌, ◌<◌, ◌≤◌, ◌+◌, ◌^◌, Bool, Option, None, Some, List, [], ◌∷◌, All, Contains, IfOk, OnOk, OnErr, length, ℕ, ◌-◌, ◌*◌, ◌/◌, ◌%◌, true, false, nat_eq, nat_lt, ◌++◌, slice_index_or, slice_set, bit_and, bit_or, Fits, w8, w32, w64, Bor, MutBor}
-use Rattle.http_wire.specs.declared.outs.HttpAnswer.{HttpAnswer}
-use Rattle.stream_requests.specs.declared.asks.Ask.{Ask}
-use Rattle.pipeline_body.specs.Exchanges.{Progress, asked_in}
-use Rattle.pipeline_body.specs.declared.bodies.PipelineBody.{PipelineBody}
-use Rattle.baton_store.specs.Batons.{HasNone}
-use Rattle.baton_store.specs.Batons.{without as without_session}
-use Rattle.engine_core.specs.Draws.{Draw}
-use Rattle.stream_task.specs.Doing.{MayBeAsked}
+use Rattle.std.proofs.Common.{◌≡◌, ◌+◌, ◌∙◌, ℕ, None, refl, sym, ap}
+use Rattle.txn_table.specs.Turns.{with_place}
 use Rattle.stream_task.specs.Together.{numbered}
-use Rattle.hrana_hub.specs.Arrivals.{IsAfter}
-use Rattle.hrana_hub.specs.Askers.{asks_these}
-use Rattle.hrana_hub.specs.Drawn.{DrawsFrom}
-use Rattle.hrana_hub.specs.Exchanges.{works_of, sessions_in, in_session, with_exchange, IsHeard}
-use Rattle.hrana_hub.specs.ExchangeArrived.{IsReadyFor, IsPreparedFor, Started, HasSession, StoreFits, Entered, GoesOr, GoesPrepared, answer_by}
-use Rattle.hrana_hub.specs.Maps.{at, put, without}
-use Rattle.hrana_hub.specs.Polled.{with_streams}
-use Rattle.hrana_hub.specs.State.{Stream, State, with_state}
-use Rattle.hrana_hub.specs.Step.{ExchangeSteps}
-use Rattle.hrana_hub.specs.declared.limits.TheConstants.{MAX_CONNECTIONS}
-use Rattle.hrana_hub.specs.declared.sessions.Session.{Session}
+use Rattle.hrana_hub.specs.Maps.{Numbered, at, without}
+use Rattle.hrana_hub.specs.State.{Stream, Seen}
+use Rattle.hrana_hub.specs.contracts.hub.Hub.{the_view}
+use Rattle.hrana_hub.proofs.ArrivalLemmas.{on_err_at}
+use Rattle.hrana_hub.proofs.Entering.{only_turn}
+use Rattle.hrana_hub.proofs.MapLemmas.{without_placed}
 use Rattle.hrana_hub.proofs.hub.Hub.make_session.Goals as goal
 
--- src/exchange_arrivals.rt:164:13
 pub returns-then-is_err-clause-err : goal.returns-then-is_err-clause-err
-returns-then-is_err-clause-err c = ?
+returns-then-is_err-clause-err c =
+    let h = c.self.inside in
+    let n = c.args.number in
+    let next : n ≡ h.opened + 1 = c.requires.next ∙ sym (ap (λ (s : Seen). s.state.opened + 1) c.self.view_is) in
+    let free : at n h.slots.entries ≡ None = ap (λ (s : Seen). at n s.state.streams) c.self.view_is ∙ c.requires.fresh in
+    let streams : c.drop_slot.new.slots.entries ≡ h.slots.entries =
+    c.drop_slot.ensures ∙ (ap (λ (es : Numbered Stream). without n es) c.in_ok-add_slot.ensures.ok ∙ without_placed n c.in_ok-slot.slot h.slots.entries free) in
+    let turns = c.in_ok-reserve_stream.ensures.ok ∙ ap (λ (k : ℕ). with_place h.turns (numbered k)) next in
+    let store : c.reserve_stream-2.new.self ≡ h.store = on_err_at c.reserve_stream-2.result (sym c.if-is_err.ensures.value) c.reserve_stream-2.ensures.err in
+    only_turn c.drop_slot.new.slots.entries c.reserve_stream.new.self c.reserve_stream-2.new.self (the_view h) c.args.self.now c.self.view_is refl streams turns store

@@ -1,26 +1,14 @@
-use Rattle.std.proofs.Common.{rules, ◌≡◌, ◌<◌, ◌≤◌, ◌+◌, ◌^◌, Bool, Option, None, Some, List, [], ◌∷◌, All, Contains, IfOk, OnOk, OnErr, length, ℕ, ◌-◌, ◌*◌, ◌/◌, ◌%◌, true, false, nat_eq, nat_lt, ◌++◌, slice_index_or, slice_set, bit_and, bit_or, Fits, w8, w32, w64, Bor, MutBor}
-use Rattle.http_wire.specs.declared.outs.HttpAnswer.{HttpAnswer}
-use Rattle.stream_requests.specs.declared.asks.Ask.{Ask}
-use Rattle.pipeline_body.specs.Exchanges.{Progress, asked_in}
-use Rattle.pipeline_body.specs.declared.bodies.PipelineBody.{PipelineBody}
-use Rattle.baton_store.specs.Batons.{HasNone}
-use Rattle.baton_store.specs.Batons.{without as without_session}
-use Rattle.engine_core.specs.Draws.{Draw}
-use Rattle.stream_task.specs.Doing.{MayBeAsked}
-use Rattle.stream_task.specs.Together.{numbered}
-use Rattle.hrana_hub.specs.Arrivals.{IsAfter}
-use Rattle.hrana_hub.specs.Askers.{asks_these}
-use Rattle.hrana_hub.specs.Drawn.{DrawsFrom}
-use Rattle.hrana_hub.specs.Exchanges.{works_of, sessions_in, in_session, with_exchange, IsHeard}
-use Rattle.hrana_hub.specs.ExchangeArrived.{IsReadyFor, IsPreparedFor, Started, HasSession, StoreFits, Entered, GoesOr, GoesPrepared, answer_by}
-use Rattle.hrana_hub.specs.Maps.{at, put, without}
-use Rattle.hrana_hub.specs.Polled.{with_streams}
-use Rattle.hrana_hub.specs.State.{Stream, State, with_state}
-use Rattle.hrana_hub.specs.Step.{ExchangeSteps}
-use Rattle.hrana_hub.specs.declared.limits.TheConstants.{MAX_CONNECTIONS}
-use Rattle.hrana_hub.specs.declared.sessions.Session.{Session}
+use Rattle.std.proofs.Common.{◌∙◌, ap, rules, tests}
+use Rattle.std.specs.Map.{values_of}
+use Rattle.std.proofs.lemmas.Iterator.Consumers.{YieldsList-at, YieldsList-from_rest, YieldsList-from_filter, count_from_yields_List}
+use Rattle.hrana_hub.specs.Exchanges.{sessions_in}
+use Rattle.hrana_hub.specs.State.{Seen, of_exchanges}
+use Rattle.hrana_hub.proofs.Entering.{sessions_counted}
 use Rattle.hrana_hub.proofs.hub.Hub.sessions.Goals as goal
 
--- src/exchange_arrivals.rt:92:5
 pub returns : goal.returns
-returns c = ?
+returns c =
+    let es = c.self.inside.slots.entries in
+    count_from_yields_List c.filter.result c.count.result c.count.ensures.ran
+    (YieldsList-from_filter _ of_exchanges (YieldsList-at c.filter.ensures.source (YieldsList-from_rest (values_of es) c.values.ensures.rest)) c.filter.ensures.closure (λ x r q k. search (rules, tests)))
+    ∙ (sessions_counted es ∙ ap (λ (h : Seen). sessions_in h.state.streams) c.self.view_is)
