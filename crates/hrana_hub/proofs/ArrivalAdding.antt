@@ -1,5 +1,5 @@
 -- Arrivals add no entry, and leave what hub and engine stand for.
-use Rattle.std.proofs.Common.{◌≡◌, ◌+◌, ℕ, Bool, List, [], Option, None, sym, ap, ◌∙◌, subst, arith, inl, inr}
+use Rattle.std.proofs.Common.{◌≡◌, ◌+◌, ℕ, Bool, List, [], Option, None, Some, sym, ap, ◌∙◌, subst, arith, inl, inr}
 use Rattle.serial_order.specs.Serial.{Meaning}
 use Rattle.http_wire.specs.declared.outs.Outs.{Outs}
 use Rattle.txn_table.specs.Turns.{Turns, with_place}
@@ -14,7 +14,9 @@ use Rattle.hrana_hub.specs.Adds.{Adds}
 use Rattle.hrana_hub.specs.Agrees.{HubAgrees, HubStands, IsNumbered}
 use Rattle.hrana_hub.specs.Arrivals.{TurnsStay, IsAfter, fresh}
 use Rattle.hrana_hub.specs.Maps.{at, placed}
-use Rattle.hrana_hub.specs.State.{Seen, states_of, state_in}
+use Rattle.hrana_hub.specs.State.{Stream, Seen, states_of, state_in}
+use Rattle.stream_task.specs.Together.{Put}
+use Rattle.stream_task.specs.declared.session.TxnState.TheVariants.{Auto}
 use Rattle.hrana_hub.specs.Step.{TextSteps, BinarySteps, with_new_conn}
 use Rattle.hrana_hub.proofs.Adding.{hub_stands, leads_none, adds_nothing}
 use Rattle.hrana_hub.proofs.Agreeing.{same_states}
