@@ -1,9 +1,7 @@
 -- Exchanges that come in: what they draw, and what they leave.
-use Rattle.std.proofs.Common.{◌≡◌, ◌≢◌, ◌<◌, ◌≤◌, ◌+◌, ◌^◌, min, ℕ, Bool, true, false, cond, List, [], ◌∷◌, ◌++◌, length, filter, Option, None, Some, Result, Ok, Err, refl, sym, ap, ◌∙◌, subst, arith, append-nil, inl, inr}
+use Rattle.std.proofs.Common.{◌≡◌, ◌+◌, ℕ, Bool, true, false, cond, List, [], ◌∷◌, length, filter, Option, Some, Result, Ok, Err, refl, sym, ap, ◌∙◌, arith, append-nil}
 use Rattle.std.specs.Map.{values_of}
-use Rattle.hrana_stmt.specs.declared.codes.Code.{Code}
 use Rattle.stream_requests.specs.declared.asks.Ask.{Ask}
-use Rattle.http_wire.specs.declared.outs.HttpAnswer.{HttpAnswer}
 use Rattle.http_wire.specs.declared.outs.Outs.{Outs}
 use Rattle.pipeline_body.specs.Exchanges.{Progress, is_over, pipeline_answer}
 use Rattle.baton_store.specs.Batons.{Batons, with_baton}

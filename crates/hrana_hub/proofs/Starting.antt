@@ -11,7 +11,7 @@ use Rattle.http_wire.specs.declared.outs.Outs.{Outs}
 use Rattle.pipeline_body.specs.Exchanges.{begins, asked_in, is_over, error_answer}
 use Rattle.pipeline_body.specs.declared.bodies.PipelineBody.{PipelineBody}
 use Rattle.baton_store.specs.Text.{text_of}
-use Rattle.baton_store.specs.Batons.{Batons, HasBaton, HasNone, Accepts, Denies, Frees, same_stream, with_place, with_baton, without as store_without}
+use Rattle.baton_store.specs.Batons.{Batons, HasNone, Accepts, Denies, Frees, same_stream, with_place, with_baton, without as store_without}
 use Rattle.baton_store.specs.declared.store.Redeem.TheVariants.{Live}
 use Rattle.baton_store.proofs.ListLemmas.{Contains-filter}
 use Rattle.baton_store.proofs.LawLemmas.{Has-filtered, Has-filter}
@@ -24,11 +24,11 @@ use Rattle.hrana_hub.specs.declared.sessions.Session.TheVariants.{Resting, Runni
 use Rattle.hrana_hub.specs.Agrees.{IsTied, rests_for}
 use Rattle.hrana_hub.specs.Arrivals.{TurnsStay}
 use Rattle.hrana_hub.specs.Askers.{asks_these}
-use Rattle.hrana_hub.specs.Exchanges.{answers_with, refusing, in_session, fresh_session, with_session, with_exchange, runs, hands_out, next_baton, sessions_in, works_of, starts_if, starts, opens_unless, Does, Awaits, GoesOn, IsDead, GoesBy, GoesDrawn}
+use Rattle.hrana_hub.specs.Exchanges.{answers_with, in_session, fresh_session, with_session, with_exchange, runs, hands_out, next_baton, sessions_in, works_of, starts_if, starts, opens_unless, Does, Awaits, GoesBy, GoesDrawn}
 use Rattle.hrana_hub.specs.ExchangeArrived.{Started, HasSession, StoreFits, Entered}
 use Rattle.hrana_hub.specs.Maps.{Numbered, at, put, placed, without}
 use Rattle.hrana_hub.specs.Polled.{passed, with_streams}
-use Rattle.hrana_hub.specs.State.{Stream, State, Seen, with_state, of_exchanges}
+use Rattle.hrana_hub.specs.State.{Stream, State, Seen, with_state}
 use Rattle.hrana_hub.proofs.EntryLemmas.{at_put, put_put}
 use Rattle.hrana_hub.proofs.MapLemmas.{none_some, at_placed, without_placed}
 use Rattle.hrana_hub.proofs.Tied.{AwaitsNone, rests_awaits_none, runs_awaits_none, tied_same, tied_same_streams, fresh_has_none, tied_opens, tied_rests, tied_issues, tied_uses, accepts_awaits, denies_none}
@@ -178,6 +178,7 @@ tied_undone n es store free tied = record {
   where
     apart : (k : ℕ) (x : Stream) → at k es ≡ Some x → k ≢ n
     apart k x e same = none_some (sym free ∙ (ap (λ (m : ℕ). at m es) (sym same) ∙ e))
+
     passes : (k : ℕ) → k ≢ n → not (same_stream (numbered k) (numbered n)) ≡ true
     passes k other = ap not (ne_eqb k n other)
 

@@ -92,7 +92,10 @@ impl Hub {
     fn sessions(&self) -> usize
         ensures { result ≡ sessions_in self.now.state.streams }
     {
-        self.slots.values().filter(|slot| slot.of_exchanges()).count()
+        self.slots
+            .values()
+            .filter(|slot| slot.of_exchanges())
+            .count()
     }
 
     fn run_slot(&mut self, stream: u64, running: Running, queued: Queued)
@@ -116,14 +119,7 @@ impl Hub {
     }
 
     /// The exchange begins, with these words. Where nothing is left to poll it is answered at once. Takes no memory.
-    fn start(
-        &mut self,
-        conn: u32,
-        close: bool,
-        stream: u64,
-        words: [u64; 2],
-        ready: Ready,
-    ) -> Outs
+    fn start(&mut self, conn: u32, close: bool, stream: u64, words: [u64; 2], ready: Ready) -> Outs
         requires place { Contains self.old.store.reserved (numbered stream) }
         requires none { HasNone self.old.store (numbered stream) }
         requires few { self.old.state.issued < 2 ^ 62 }
@@ -303,12 +299,7 @@ impl Hub {
     }
 
     /// An exchange has come in. Words are drawn for it once all memory is taken.
-    pub(crate) fn exchange<T: Tokens>(
-        &mut self,
-        tokens: &mut T,
-        conn: u32,
-        ask: &HttpAsk,
-    ) -> Outs
+    pub(crate) fn exchange<T: Tokens>(&mut self, tokens: &mut T, conn: u32, ask: &HttpAsk) -> Outs
         requires few { (self.old.state.opened < 2 ^ 62) × (self.old.state.issued < 2 ^ 62) }
         requires fresh { at (self.old.state.opened + 1) self.old.state.streams ≡ None }
         requires store { StoreFits self.old }

@@ -1,14 +1,11 @@
-use Rattle.std.proofs.Common.{◌≡◌, ◌∙◌, Result, List, ℕ, None, nat_le, false, refl, sym, ap, subst, rules}
-use Rattle.engine_core.specs.Draws.{draw_of, words, failed}
+use Rattle.std.proofs.Common.{◌≡◌, ◌∙◌, Result, List, ℕ, nat_le, false, refl, sym, ap, subst}
+use Rattle.engine_core.specs.Draws.{draw_of, words}
 use Rattle.engine_core.specs.declared.outside.Failed.{Failed}
 use Rattle.pipeline_body.specs.Exchanges.{begins, asked_in}
-use Rattle.stream_task.specs.Together.{numbered}
-use Rattle.baton_store.specs.Batons.{Batons}
 use Rattle.hrana_hub.specs.declared.limits.TheConstants.{MAX_SESSIONS}
 use Rattle.hrana_hub.specs.declared.sessions.Running.{Running as Exchange}
-use Rattle.hrana_hub.specs.ExchangeArrived.{HasSession, StoreFits, Entered, GoesPrepared, Started}
+use Rattle.hrana_hub.specs.ExchangeArrived.{HasSession, Entered}
 use Rattle.hrana_hub.specs.Exchanges.{GoesDrawn, sessions_in}
-use Rattle.hrana_hub.specs.Maps.{at}
 use Rattle.hrana_hub.specs.State.{Seen}
 use Rattle.hrana_hub.specs.contracts.hub.Hub.{the_view}
 use Rattle.hrana_hub.proofs.Entering.{draws_one}
