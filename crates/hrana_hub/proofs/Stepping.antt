@@ -1,6 +1,7 @@
 -- An event is counted, and comes.
 use Rattle.std.proofs.Common.{◌≡◌, ◌<◌, ◌&&◌, ℕ, Bool, true, false, not, nat_lt, List, [], Option, None, Some, MatchBool, refl, sym, ap, subst, arith, true≢false}
 use Rattle.std.proofs.lemmas.Bool.{ltb-true}
+use Rattle.http_wire.specs.declared.asks.HttpAsk.{HttpAsk}
 use Rattle.http_wire.specs.declared.outs.Outs.{Outs}
 use Rattle.serial_order.specs.Serial.{Meaning}
 use Rattle.engine_core.specs.Transactions.{Lives}
@@ -117,3 +118,13 @@ fits_running s event e = by s.stopped (and_left (not s.stopped) (nat_lt s.events
     by : (b : Bool) → not b ≡ true → b ≡ false
     by false f = refl
     by true f = absurd (true≢false (sym f))
+
+pub not_exchange : (event : Event) → ((c : ℕ) (ask : HttpAsk) → event ≡ Exchange c ask → ⊥) → is_exchange event ≡ false
+not_exchange (Opened c) other = refl
+not_exchange (Text c text) other = refl
+not_exchange (Binary c) other = refl
+not_exchange (Exchange c ask) other = absurd (other c ask refl)
+not_exchange (Lost c) other = refl
+not_exchange (Moment now) other = refl
+not_exchange (Poll stream) other = refl
+not_exchange Stop other = refl
