@@ -12,7 +12,7 @@ use Rattle.stream_task.specs.Leads.{StandsFor, JoinsStanding}
 use Rattle.stream_task.specs.Together.{numbered}
 use Rattle.hrana_hub.specs.Adds.{Adds}
 use Rattle.hrana_hub.specs.Agrees.{HubAgrees, HubStands, IsNumbered}
-use Rattle.hrana_hub.specs.Arrivals.{TurnsStay, IsAfter, fresh}
+use Rattle.hrana_hub.specs.Arrivals.{TurnsStay}
 use Rattle.hrana_hub.specs.Maps.{at, placed}
 use Rattle.hrana_hub.specs.State.{Stream, Seen, states_of, state_in}
 use Rattle.stream_task.specs.Together.{Put}

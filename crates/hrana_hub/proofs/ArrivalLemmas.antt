@@ -1,5 +1,5 @@
 -- What arrivals leave, said of values.
-use Rattle.std.proofs.Common.{◌≡◌, ◌<◌, ◌+◌, ℕ, ℤ, Bool, true, false, List, length, Option, Some, None, Result, Ok, Err, IfOk, refl, sym, ap, ◌∙◌, subst, inl, inr, nat_lt, nat_le}
+use Rattle.std.proofs.Common.{◌≡◌, ◌<◌, ◌+◌, ℕ, ℤ, true, false, List, length, Option, Some, None, Result, Ok, Err, IfOk, refl, sym, ap, ◌∙◌, subst, inl, inr, nat_lt, nat_le}
 use Rattle.std.specs.Prelude.{OnErr, is_err, is_some}
 use Rattle.std.proofs.lemmas.Bool.{false≢true, not-true, ltb-true, or_cases, cond-true, cond-false}
 use Rattle.hrana_value.specs.declared.failures.NoMemory.{NoMemory}
@@ -12,7 +12,6 @@ use Rattle.ws_messages.specs.declared.messages.ClientMsg.{ClientMsg}
 use Rattle.ws_messages.specs.declared.messages.MsgFail.{MsgFail}
 use Rattle.http_wire.specs.declared.outs.Outs.{Outs}
 use Rattle.txn_table.specs.Turns.{Turns, with_place}
-use Rattle.engine_core.specs.Noted.{Noted}
 use Rattle.stream_task.specs.Together.{numbered}
 use Rattle.hrana_hub.specs.declared.limits.TheConstants.{MAX_STREAMS, MAX_OUTSTANDING}
 use Rattle.hrana_hub.specs.Arrivals.{Went, saying, with_conn, shut, closing, opens, opens_unless, with_stream, unopened, asks, asks_at, queues, if_greeted, on_answer, IsAfter, Arrives}

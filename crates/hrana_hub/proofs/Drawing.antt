@@ -1,8 +1,7 @@
 -- What a step draws, put together of what its parts draw.
-use Rattle.std.proofs.Common.{◌≡◌, ◌≤◌, ◌+◌, ◌^◌, ℕ, Bool, false, List, [], ◌∷◌, ◌++◌, length, Option, Some, append-nil, refl, sym, ap, ◌∙◌, subst, arith}
-use Rattle.engine_core.specs.Causes.{RoseBy}
+use Rattle.std.proofs.Common.{◌≡◌, ℕ, List, [], Option, Some, append-nil, sym, ap, ◌∙◌, arith}
 use Rattle.engine_core.specs.Draws.{Draw}
-use Rattle.hrana_hub.specs.Drawn.{DrawsFrom, failures}
+use Rattle.hrana_hub.specs.Drawn.{DrawsFrom}
 
 module _ {T : Type 0} (drawn : T → Option (List Draw)) (faults : T → ℕ) (tokens tokens' : T) where
   -- nothing is drawn

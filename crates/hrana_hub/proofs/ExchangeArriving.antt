@@ -1,5 +1,5 @@
 -- What an exchange that comes in leaves of the agreement.
-use Rattle.std.proofs.Common.{◌≡◌, ◌≤◌, ◌<◌, ◌+◌, ◌⊎◌, ℕ, Bool, true, false, cond, nat_le, List, [], ◌∷◌, Option, None, Some, MatchBool, refl, sym, ap, ◌∙◌, subst, arith, inl, inr, nat_cmp}
+use Rattle.std.proofs.Common.{◌≡◌, ◌≤◌, ◌+◌, ℕ, Bool, true, false, nat_le, List, [], ◌∷◌, Option, None, Some, MatchBool, refl, sym, ap, ◌∙◌, subst, arith, inl, inr}
 use Rattle.http_wire.specs.declared.asks.HttpAsk.{HttpAsk}
 use Rattle.http_wire.specs.declared.outs.HttpAnswer.{HttpAnswer}
 use Rattle.http_wire.specs.declared.outs.Outs.{Outs}
@@ -10,17 +10,15 @@ use Rattle.pipeline_body.specs.declared.exchange.Asked.TheVariants.{Answered, Pi
 use Rattle.stream_requests.specs.declared.asks.Ask.{Ask}
 use Rattle.engine_core.specs.Draws.{Draw, words, failed}
 use Rattle.engine_core.specs.Transactions.{Lives}
-use Rattle.stream_task.specs.Together.{JoinsTogether, numbered}
-use Rattle.stream_task.specs.declared.session.TxnState.TheVariants.{Auto}
+use Rattle.stream_task.specs.Together.{JoinsTogether}
 use Rattle.hrana_hub.specs.declared.limits.TheConstants.{MAX_SESSIONS}
 use Rattle.hrana_hub.specs.declared.sessions.Running.{Running as Exchange}
 use Rattle.hrana_hub.specs.Agrees.{HubAgrees, IsAhead}
 use Rattle.hrana_hub.specs.ExchangeArrived.{Entered}
-use Rattle.hrana_hub.specs.Exchanges.{starts, starts_if, fresh_session, with_session, opens_unless, sessions_in, Does, GoesBy, GoesDrawn, GoesAsked, GoesOn, IsDead, IsHeard}
+use Rattle.hrana_hub.specs.Exchanges.{starts_if, fresh_session, with_session, opens_unless, sessions_in, GoesBy, GoesDrawn, GoesAsked, IsHeard}
 use Rattle.hrana_hub.specs.Maps.{Numbered, at, put, placed}
 use Rattle.hrana_hub.specs.State.{Stream, State, Seen}
 use Rattle.hrana_hub.specs.Step.{ExchangeSteps, ExchangeGoes, ExchangeFell, is_short}
-use Rattle.hrana_hub.proofs.Agreeing.{StoreAgrees}
 use Rattle.hrana_hub.proofs.ArrivalAgreeing.{Moves, keeps_all, puts_one, adds_one, arrived_agrees}
 use Rattle.std.proofs.lemmas.Bool.{cases_order}
 use Rattle.hrana_hub.proofs.MapLemmas.{put_first, put_later, placed_same, placed_less, placed_more}
@@ -84,6 +82,7 @@ exchange_moved token s c ask draws out new h = by (route_answer ask) h
     heard : (b : Bool) → MatchBool b (ExchangeFell s c ask draws out new) (IsHeard token s c ask draws out new) → Moved s new
     heard true g = stays_moved s new g.2
     heard false g = asked_moved g.asked c ask.close s draws out new g.goes
+
     by : (o : Option HttpAnswer) → ExchangeGoes o token s c ask draws out new → Moved s new
     by (Some answer) g = stays_moved s new g.1.left
     by None g = heard (is_short out) g

@@ -3,14 +3,14 @@
 use Rattle.std.specs.Option.{IsSome}
 use Rattle.std.specs.Prelude.{OnOk, is_err}
 use Rattle.txn_table.specs.Turns.{Turns}
-use Rattle.std.proofs.Common.{◌≡◌, ◌≢◌, ◌≤◌, ◌<◌, ◌+◌, ℕ, Bool, true, false, cond, List, [], ◌∷◌, ◌++◌, Option, None, Some, All, Contains, MatchBool, refl, sym, ap, ◌∙◌, subst, arith, append-nil, is_some, option_to_list, inl, inr, Result, Ok, Err, true≢false}
+use Rattle.std.proofs.Common.{◌≡◌, ◌+◌, ℕ, Bool, true, false, List, [], ◌++◌, Option, None, Some, All, MatchBool, refl, sym, ap, ◌∙◌, subst, arith, append-nil, is_some, option_to_list, inl, inr, Result, Ok, Err, true≢false}
 use Rattle.serial_order.specs.Serial.{Meaning}
 use Rattle.hrana_value.specs.declared.failures.NoMemory.{NoMemory}
 use Rattle.http_wire.specs.declared.outs.Outs.{Outs}
 use Rattle.stream_requests.specs.declared.replies.Reply.{Reply}
 use Rattle.pipeline_body.specs.Batons.{IsPlain}
 use Rattle.pipeline_body.specs.Exchanges.{is_over}
-use Rattle.baton_store.specs.Batons.{Batons, HasNone, with_baton}
+use Rattle.baton_store.specs.Batons.{Batons, with_baton}
 use Rattle.baton_store.specs.Text.{IsSymbol, text_of}
 use Rattle.engine_core.specs.Noted.{Noted}
 use Rattle.engine_core.specs.Transactions.{Lives}
@@ -20,7 +20,7 @@ use Rattle.engine_core.specs.declared.entries.Entry.{Entry}
 use Rattle.engine_core.specs.declared.entries.Undo.{Undo}
 use Rattle.stream_task.specs.Adds.{undone_of}
 use Rattle.stream_task.specs.Laws.{PollsReplyToPipelines}
-use Rattle.stream_task.specs.Polls.{Task, Polls, is_waiting, with_asks}
+use Rattle.stream_task.specs.Polls.{Polls, is_waiting, with_asks}
 use Rattle.stream_task.specs.declared.session.TxnState.{TxnState}
 use Rattle.stream_task.specs.declared.session.TxnState.TheVariants.{Auto, Deferred, Reading, Writing, Dead, Closed}
 use Rattle.stream_task.specs.Session.{is_shut}
@@ -35,22 +35,22 @@ use Rattle.hrana_hub.specs.Arrivals.{nothing}
 use Rattle.hrana_hub.specs.Askers.{running_of, exchange_in, asker_of, asker_in}
 use Rattle.hrana_hub.specs.declared.slot.Asker.TheVariants as asker
 use Rattle.hrana_hub.specs.declared.sessions.Issued.{Issued}
-use Rattle.hrana_hub.specs.Exchanges.{SessionPolled, SessionFell, answers_with, empty_503, gives_up, in_session, replies_to, proceeds, proceeds_if, concludes, with_reply, without_exchange, issues, next_baton, leaves}
-use Rattle.hrana_hub.specs.ExchangeSettled.{MayIssue, IsRunning, IsRunningFor, HandsOut, HasPipelineReply, Concludes, Settles, Ends, GivesUp, Tells, given_up, rested}
+use Rattle.hrana_hub.specs.Exchanges.{empty_503, gives_up, in_session, replies_to, proceeds_if, concludes, with_reply, without_exchange, issues, next_baton, leaves}
+use Rattle.hrana_hub.specs.ExchangeSettled.{MayIssue, IsRunning, IsRunningFor, HandsOut, HasPipelineReply, Concludes, Settles, Ends, given_up, rested}
 use Rattle.hrana_hub.specs.Maps.{Numbered, at, put, without}
-use Rattle.hrana_hub.specs.Polled.{with_entry, with_streams, with_task, passed, dropped, reply_in, seen_of, FellShort}
+use Rattle.hrana_hub.specs.Polled.{with_entry, with_streams, with_task, reply_in, seen_of, FellShort}
 use Rattle.hrana_hub.specs.Settled.{PollsStream}
-use Rattle.hrana_hub.specs.State.{Stream, State, Seen, states_of, with_state, of_exchanges}
+use Rattle.hrana_hub.specs.State.{Stream, State, Seen, states_of, with_state}
 use Rattle.hrana_hub.specs.Step.{is_short}
 use Rattle.hrana_hub.specs.declared.sessions.Running.{Running as Exchange}
 use Rattle.hrana_hub.specs.declared.sessions.Session.{Session}
 use Rattle.hrana_hub.specs.declared.sessions.Session.TheVariants.{Resting, Running}
 use Rattle.hrana_hub.proofs.Adding.{Alike, adds_none}
-use Rattle.hrana_hub.proofs.Agreeing.{Moves, StoreAgrees, moves_agrees, same_states}
+use Rattle.hrana_hub.proofs.Agreeing.{moves_agrees, same_states}
 use Rattle.hrana_hub.proofs.EntryLemmas.{at_put, put_put, put_same, without_put}
 use Rattle.hrana_hub.proofs.MapLemmas.{none_some, some_one}
 use Rattle.hrana_hub.proofs.Polling.{some_of, known_left, early}
-use Rattle.hrana_hub.proofs.Tied.{tied_rests, tied_issues, tied_has_place, tied_has_none, rests_awaits_none, runs_awaits_none}
+use Rattle.hrana_hub.proofs.Tied.{tied_rests, tied_issues, tied_has_none, rests_awaits_none, runs_awaits_none}
 
 -- ---- batons are written in JSON as they stand
 

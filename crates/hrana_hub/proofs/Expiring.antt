@@ -1,10 +1,7 @@
 -- Streams that expire, the first that is due after the other.
-use Rattle.std.proofs.Common.{◌≡◌, ◌≢◌, ◌≤◌, ◌<◌, ◌+◌, ◌-◌, ◌⊎◌, ◌&&◌, ◌||◌, ℕ, Bool, true, false, not, cond, nat_le, nat_lt, List, [], ◌∷◌, ◌++◌, length, Option, None, Some, MatchBool, refl, sym, ap, ◌∙◌, subst, arith, inl, inr, nat_cmp, is_some, append_assoc, true≢false}
+use Rattle.std.proofs.Common.{◌≡◌, ◌≢◌, ◌<◌, ◌+◌, ◌-◌, ◌⊎◌, ◌&&◌, ◌||◌, ℕ, Bool, true, false, cond, nat_le, nat_lt, List, [], ◌∷◌, ◌++◌, Option, None, Some, MatchBool, refl, sym, ap, ◌∙◌, subst, arith, inl, inr, append_assoc, true≢false}
 use Rattle.std.specs.Option.{IsSome}
-use Rattle.std.specs.BTreeMap.{is_at}
-use Rattle.std.specs.List.Sorted.{IsStrictlySortedBy}
-use Rattle.std.specs.Map.{keys_of}
-use Rattle.std.proofs.lemmas.Bool.{cases_Bool, cases_eq, ltb-true, ltb-false, leb-true, leb-false}
+use Rattle.std.proofs.lemmas.Bool.{cases_Bool, cases_eq, leb-false}
 use Rattle.http_wire.specs.declared.outs.Outs.{Outs}
 use Rattle.txn_table.specs.Turns.{has}
 use Rattle.engine_core.specs.declared.entries.Entry.{Entry}
@@ -12,17 +9,16 @@ use Rattle.engine_core.specs.declared.entries.Undo.TheVariants as undo
 use Rattle.engine_core.specs.Transactions.{Lives}
 use Rattle.stream_task.specs.Session.{open_of}
 use Rattle.stream_task.specs.Together.{Put, AgreesAt, numbered}
-use Rattle.hrana_hub.specs.Maps.{Numbered, at, put, without, left_at, and_left, those_left, first_that}
+use Rattle.hrana_hub.specs.Maps.{Numbered, at, put, without, left_at, and_left, those_left}
 use Rattle.hrana_hub.specs.State.{Stream, State, Seen, states_of, state_in, of_exchanges}
 use Rattle.hrana_hub.specs.Agrees.{HubAgrees, IsNumbered, open_units}
 use Rattle.hrana_hub.specs.Arrivals.{nothing, quiet}
 use Rattle.hrana_hub.specs.Ended.{end_of}
-use Rattle.hrana_hub.specs.Moments.{is_due, expired, left_of, after, first_due, expiries, at_moment, HasExpired, Expire}
+use Rattle.hrana_hub.specs.Moments.{is_due, expired, left_of, after, first_due, expiries, at_moment, Expire}
 use Rattle.hrana_hub.specs.declared.limits.TheConstants.{EXPIRY_MS}
-use Rattle.hrana_hub.specs.Polled.{with_streams}
 use Rattle.hrana_hub.specs.Step.{MomentAt, Goes}
 use Rattle.txn_table.specs.Turns.{Turns}
-use Rattle.hrana_hub.proofs.EntryLemmas.{is_here, is_apart, at_put, at_put_other, at_without_other, without_first}
+use Rattle.hrana_hub.proofs.EntryLemmas.{is_apart, at_put_other, at_without_other, without_first}
 use Rattle.hrana_hub.proofs.MapLemmas.{none_some, some_one, at_first, at_later, put_first, put_later, AllAbove, Rises, rises_head, rises_tail}
 use Rattle.hrana_hub.proofs.Agreeing.{put_states, numbers_put, units_put}
 use Rattle.hrana_hub.proofs.Waiting.{known_put}
@@ -234,6 +230,7 @@ at_left {A} f n x (e ∷ es) r k = elim (cases_eq n e.0) [
     here : (o : Option A) → n ≡ e.0 → at n (and_left e.0 o (those_left f es)) ≡ o
     here None own = none_above n (those_left f es) (above_left f n es (subst (λ m. AllAbove m es) (sym own) (rises_head e es r)))
     here (Some y) own = at_first n (e.0, y) (those_left f es) own
+
     later : (o : Option A) → n ≢ e.0 → at n (and_left e.0 o (those_left f es)) ≡ at n (those_left f es)
     later None other = refl
     later (Some y) other = at_later n (e.0, y) (those_left f es) other

@@ -422,7 +422,6 @@ early_fall shared h n c x k out new turn waits given left = short out _ _ (ap is
   left = left;
 })
 
-
 unheard : (s : State) (o : Option Conn) (Does : Conn → Type 0) (out : Outs) → is_heard o ≡ false → out ≡ nothing → Heard s o Does [] out s
 unheard s None Does out e given = record { none = refl; given = given; left = refl }
 unheard s (Some k) Does out e given = by k.closing e

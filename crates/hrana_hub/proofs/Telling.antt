@@ -1,5 +1,5 @@
 -- The story of a stream goes on: where it opens, over each request that is accepted, over each poll.
-use Rattle.std.proofs.Common.{◌≡◌, ◌&&◌, ℕ, ℤ, Bool, true, false, not, cond, nat_eq, List, [], ◌∷◌, ◌++◌, map, drop, length, All, Option, None, Some, option_to_list, refl, sym, ap, ◌∙◌, subst, append-nil, append_assoc}
+use Rattle.std.proofs.Common.{◌≡◌, ℕ, ℤ, Bool, true, false, List, [], ◌∷◌, ◌++◌, map, drop, length, All, Option, None, Some, option_to_list, refl, sym, ap, ◌∙◌, subst, append-nil, append_assoc}
 use Rattle.std.proofs.lemmas.List.{map-append}
 use Rattle.std.proofs.lemmas.List.Elements.{All-head}
 use Rattle.stream_requests.specs.declared.asks.Ask.{Ask}
@@ -18,14 +18,12 @@ use Rattle.stream_task.specs.declared.task.Stepped.{Stepped}
 use Rattle.stream_task.specs.declared.task.Stepped.TheVariants as stepped
 use Rattle.stream_task.specs.declared.work.Work.{Work}
 use Rattle.hrana_hub.specs.declared.events.Event.{Event}
-use Rattle.hrana_hub.specs.declared.events.Event.TheVariants.{Opened, Text, Binary, Lost, Moment, Stop}
-use Rattle.hrana_hub.specs.declared.events.Event.TheVariants as event
 use Rattle.hrana_hub.specs.Maps.{at}
 use Rattle.hrana_hub.specs.Moments.{expired}
 use Rattle.hrana_hub.specs.State.{Conn, Stream, State}
 use Rattle.hrana_hub.specs.Arrivals.{fresh, waiting}
 use Rattle.hrana_hub.specs.Polled.{Polled, reply_in, first_id, later_ids, still_wait, answer, polled, seen_of}
-use Rattle.hrana_hub.specs.Stories.{Story, Chapter, no_story, told_on, turned, meant, text_in, ids_in, asks_in, ids_by, asks_by, used_by, told_by, expires_by, is_begun_in, session_in, BeganAt, answer_text, Tells, HasTold}
+use Rattle.hrana_hub.specs.Stories.{Story, Chapter, no_story, told_on, turned, meant, text_in, ids_by, asks_by, used_by, told_by, expires_by, session_in, BeganAt, answer_text, Tells, HasTold}
 use Rattle.hrana_hub.proofs.Paired.{Pairs, first_waits}
 
 -- ---- what an event adds to a story

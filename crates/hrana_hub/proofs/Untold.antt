@@ -1,7 +1,6 @@
 -- What an event doesn't add to the story of a stream that it leaves as it was.
-use Rattle.std.proofs.Common.{◌≡◌, ◌&&◌, ℕ, ℤ, Bool, true, false, not, cond, nat_eq, List, [], ◌∷◌, drop, length, refl, ap, ◌∙◌}
+use Rattle.std.proofs.Common.{◌≡◌, ◌&&◌, ℕ, Bool, true, false, not, cond, nat_eq, List, [], ◌∷◌, drop, length, refl, ap, ◌∙◌}
 use Rattle.engine_core.specs.declared.entries.Entry.{Entry}
-use Rattle.stream_task.specs.declared.work.Work.{Work}
 use Rattle.hrana_hub.specs.declared.events.Event.{Event}
 use Rattle.hrana_hub.specs.declared.events.Event.TheVariants.{Opened, Text, Binary, Exchange, Lost, Moment, Poll, Stop}
 use Rattle.hrana_hub.specs.Maps.{at}

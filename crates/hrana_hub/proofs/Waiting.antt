@@ -1,8 +1,6 @@
 -- Who waits for the turn is a stream of the hub, also after a poll and an end.
-use Rattle.std.proofs.Common.{◌≡◌, ◌≢◌, ◌⊎◌, ◌||◌, ℕ, Bool, true, false, not, cond, List, [], ◌∷◌, ◌++◌, Option, None, Some, refl, sym, ap, ◌∙◌, is_some, true≢false, inl, inr, nat_cmp}
+use Rattle.std.proofs.Common.{◌≡◌, ◌≢◌, ◌⊎◌, ◌||◌, ℕ, Bool, true, false, not, cond, List, [], ◌∷◌, ◌++◌, Option, None, Some, refl, sym, ap, ◌∙◌, is_some, true≢false, inl, inr}
 use Rattle.std.specs.Option.{IsSome}
-use Rattle.std.specs.List.Sorted.{IsStrictlySortedBy}
-use Rattle.std.specs.Map.{keys_of}
 use Rattle.std.proofs.lemmas.Bool.{cases_eq, or_cases}
 use Rattle.std.proofs.lemmas.Map.Views.{any-filter_same}
 use Rattle.hrana_value.specs.declared.StreamNo.{StreamNo}
@@ -12,9 +10,9 @@ use Rattle.txn_table.proofs.StreamLemmas.{one_of_same, or_true}
 use Rattle.engine_core.specs.declared.entries.Entry.{Entry}
 use Rattle.stream_task.specs.Moved.{Rests}
 use Rattle.stream_task.specs.Together.{numbered}
-use Rattle.hrana_hub.specs.Maps.{Numbered, at, put, without}
+use Rattle.hrana_hub.specs.Maps.{Numbered, at, put}
 use Rattle.hrana_hub.specs.State.{Stream}
-use Rattle.hrana_hub.proofs.EntryLemmas.{at_put, at_put_other, at_without_other}
+use Rattle.hrana_hub.proofs.EntryLemmas.{at_put, at_put_other}
 
 -- ---- lists of streams
 

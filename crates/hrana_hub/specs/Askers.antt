@@ -1,5 +1,5 @@
 -- Whom a stream answers.
-use Rattle.std.specs.Prelude.{Bool, List, Option, None, Some}
+use Rattle.std.specs.Prelude.{List, Option, None, Some}
 use Rattle.stream_task.specs.Polls.{with_asks}
 use Rattle.stream_task.specs.declared.work.Work.{Work}
 use Rattle.hrana_hub.specs.declared.sessions.Running.{Running as Exchange}

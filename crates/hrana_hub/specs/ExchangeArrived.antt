@@ -1,5 +1,5 @@
 -- An exchange that comes in: before its words are drawn, and once they are.
-use Rattle.std.specs.Prelude.{◌≡◌, ◌+◌, ◌⊎◌, ℕ, Bool, true, false, cond, List, [], ◌∷◌, Option, Some, Result, Ok, Err}
+use Rattle.std.specs.Prelude.{◌≡◌, ◌+◌, ℕ, Bool, true, false, cond, List, [], ◌∷◌, Some, Result, Ok, Err}
 use Rattle.hrana_value.specs.declared.failures.NoMemory.{NoMemory}
 use Rattle.hrana_stmt.specs.declared.codes.Code.TheVariants as code
 use Rattle.stream_requests.specs.declared.asks.Ask.{Ask}

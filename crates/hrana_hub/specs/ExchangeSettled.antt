@@ -1,8 +1,7 @@
 -- A poll of a stream whose exchange runs, before what it gave is told, and what is left once it is told.
-use Rattle.std.specs.Prelude.{◌≡◌, ◌≢◌, ◌<◌, ◌^◌, ℕ, Bool, List, [], Option, None, Some, Result, Ok, Err, MatchBool}
+use Rattle.std.specs.Prelude.{◌≡◌, ◌≢◌, ◌<◌, ◌^◌, ℕ, Bool, List, [], None, Some, Result, Ok, Err, MatchBool}
 use Rattle.hrana_value.specs.declared.failures.NoMemory.{NoMemory}
 use Rattle.stream_requests.specs.Results.{IsPipelineReply}
-use Rattle.stream_requests.specs.declared.replies.Reply.{Reply}
 use Rattle.stream_task.specs.Session.{is_shut}
 use Rattle.http_wire.specs.declared.outs.Outs.{Outs}
 use Rattle.engine_core.specs.declared.entries.Entry.{Entry}

@@ -1,5 +1,5 @@
 -- Exchanges over HTTP: what each does to its stream, and how it is answered.
-use Rattle.std.specs.Prelude.{◌≡◌, ◌≢◌, ◌+◌, ◌<◌, ◌⊎◌, ℕ, Bool, true, false, nat_le, nat_lt, bytes_eq, cond, length, List, [], ◌∷◌, ◌++◌, Option, None, Some, option_to_list, MatchBool, MatchOption}
+use Rattle.std.specs.Prelude.{◌≡◌, ◌≢◌, ◌+◌, ◌<◌, ◌⊎◌, ℕ, Bool, true, false, nat_le, cond, List, [], ◌∷◌, ◌++◌, Option, None, Some, option_to_list}
 use Rattle.hrana_value.specs.declared.StreamNo.{StreamNo}
 use Rattle.hrana_stmt.specs.declared.codes.Code.{Code}
 use Rattle.hrana_stmt.specs.declared.codes.Code.TheVariants as code
@@ -9,11 +9,10 @@ use Rattle.http_wire.specs.declared.asks.HttpAsk.{HttpAsk}
 use Rattle.http_wire.specs.declared.outs.HttpAnswer.{HttpAnswer}
 use Rattle.http_wire.specs.declared.outs.Outs.{Outs}
 use Rattle.http_wire.specs.declared.outs.Out.TheVariants.{Answer}
-use Rattle.pipeline_body.specs.declared.bodies.PipeAsk.{PipeAsk}
 use Rattle.pipeline_body.specs.declared.bodies.PipelineBody.{PipelineBody}
 use Rattle.pipeline_body.specs.declared.exchange.Asked.{Asked}
 use Rattle.pipeline_body.specs.declared.exchange.Asked.TheVariants.{Answered, Pipeline}
-use Rattle.pipeline_body.specs.Exchanges.{IsAsked, route_answer, empty_answer, error_answer, pipeline_answer, begins, asked_in, answered, is_over}
+use Rattle.pipeline_body.specs.Exchanges.{IsAsked, empty_answer, error_answer, pipeline_answer, begins, asked_in, answered, is_over}
 use Rattle.baton_store.specs.Text.{text_of}
 use Rattle.baton_store.specs.declared.limits.TheConstants.{BATON_LIFE_MS}
 use Rattle.engine_core.specs.Draws.{Draw, words, failed}
@@ -153,7 +152,6 @@ with_session c s = record s { streams = placed (s.opened + 1) (fresh_session s.n
 abbrev pub works_of : List Ask → List Work
 works_of [] = []
 works_of (what ∷ asks) = option_to_list (work_of what) ++ works_of asks
-
 
 abbrev pub with_exchange : ℕ → ℕ → State → State
 with_exchange c n s = record s { exchanges = placed c n s.exchanges }

@@ -1,7 +1,6 @@
 -- Moments: when a stream is due, and what is left of it then.
-use Rattle.std.specs.Prelude.{◌≡◌, ◌≢◌, ◌≤◌, ◌-◌, ◌&&◌, ◌||◌, not, nat_le, nat_lt, cond, ℕ, Bool, true, false, List, [], ◌∷◌, ◌++◌, Option, None, Some, MatchBool}
+use Rattle.std.specs.Prelude.{◌≡◌, ◌≢◌, ◌≤◌, ◌-◌, ◌&&◌, ◌||◌, not, nat_le, cond, ℕ, Bool, true, false, List, [], ◌∷◌, ◌++◌, Option, None, Some}
 use Rattle.txn_table.specs.Turns.{has}
-use Rattle.http_wire.specs.declared.outs.Outs.{Outs}
 use Rattle.engine_core.specs.declared.entries.Entry.{Entry}
 use Rattle.engine_core.specs.declared.entries.Undo.TheVariants as undo
 use Rattle.stream_task.specs.Polls.{is_waiting, ended}

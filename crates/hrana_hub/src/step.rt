@@ -51,12 +51,7 @@ impl Hub {
     }
 
     /// What comes of an event that was counted.
-    fn come<E: Engine, T: Tokens>(
-        &mut self,
-        engine: &mut E,
-        tokens: &mut T,
-        event: Event,
-    ) -> Outs
+    fn come<E: Engine, T: Tokens>(&mut self, engine: &mut E, tokens: &mut T, event: Event) -> Outs
         requires may { may_come self.old.state event ≡ true }
         requires ahead { IsAhead self.old.state }
         requires running { self.old.state.stopped ≡ false }

@@ -1,6 +1,5 @@
-use Rattle.std.proofs.Common.{◌≡◌, false, [], refl, sym, ap, subst, arith}
-use Rattle.hrana_hub.specs.Moments.{LossFrees}
-use Rattle.hrana_hub.specs.Step.{ComesOf, is_exchange}
+use Rattle.std.proofs.Common.{[], refl, sym, subst, arith}
+use Rattle.hrana_hub.specs.Step.{ComesOf}
 use Rattle.hrana_hub.proofs.Adding.{adds_as}
 use Rattle.hrana_hub.proofs.ArrivalAdding.{arrived_adds}
 use Rattle.hrana_hub.proofs.Drawing.{nothing_drawn, drawn_as}

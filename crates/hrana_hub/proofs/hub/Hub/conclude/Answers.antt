@@ -1,10 +1,7 @@
-use Rattle.std.proofs.Common.{◌≡◌, ◌∙◌, Some, true, false, refl, sym, ap, subst, is_some}
-use Rattle.hrana_hub.specs.Exchanges.{answers_with, concludes}
-use Rattle.hrana_hub.specs.ExchangeSettled.{Concludes}
+use Rattle.std.proofs.Common.{refl, sym, ap, is_some}
 use Rattle.hrana_hub.specs.Maps.{at}
 use Rattle.engine_core.specs.Noted.{Noted}
-use Rattle.hrana_hub.specs.State.{Seen}
-use Rattle.hrana_hub.proofs.Adding.{alike, adds_none, adds_as}
+use Rattle.hrana_hub.proofs.Adding.{alike, adds_none}
 use Rattle.hrana_hub.proofs.Polling.{some_of}
 use Rattle.hrana_hub.proofs.Tied.{tied_has_place, tied_has_none, rests_awaits_none}
 use Rattle.hrana_hub.proofs.ExchangePolling.{hands_agree, hands_alike, hands_concludes, err_concludes}

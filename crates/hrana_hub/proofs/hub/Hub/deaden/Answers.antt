@@ -7,7 +7,7 @@ use Rattle.hrana_hub.specs.Agrees.{HubAgrees, IsTied}
 use Rattle.hrana_hub.specs.Ended.{end_of}
 use Rattle.hrana_hub.specs.Moments.{expired}
 use Rattle.hrana_hub.specs.Polled.{with_streams}
-use Rattle.hrana_hub.specs.State.{State, Seen}
+use Rattle.hrana_hub.specs.State.{Seen}
 use Rattle.hrana_hub.specs.contracts.hub.Hub.{the_view}
 use Rattle.engine_core.specs.declared.entries.Undo.TheVariants.{Expired}
 use Rattle.hrana_hub.proofs.Adding.{alike, adds_none}

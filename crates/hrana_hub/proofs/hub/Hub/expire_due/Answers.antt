@@ -1,4 +1,4 @@
-use Rattle.std.proofs.Common.{◌≡◌, ◌≤◌, ◌++◌, ◌+◌, ◌<◌, ◌∙◌, refl, sym, ap, subst, arith, append-nil}
+use Rattle.std.proofs.Common.{◌≡◌, ◌++◌, ◌∙◌, refl, sym, ap, subst, arith, append-nil}
 use Rattle.hrana_hub.specs.Maps.{left_at, those_left}
 use Rattle.hrana_hub.specs.Moments.{left_of, after, expiries}
 use Rattle.hrana_hub.specs.State.{State}

@@ -1,4 +1,4 @@
-use Rattle.std.proofs.Common.{◌≡◌, ◌∙◌, ◌+◌, Some, sym, ap}
+use Rattle.std.proofs.Common.{◌≡◌, ◌∙◌, ◌+◌, Some, ap}
 use Rattle.pipeline_body.specs.Exchanges.{pipeline_answer}
 use Rattle.baton_store.specs.Text.{text_of}
 use Rattle.hrana_hub.specs.Exchanges.{answers_with, next_baton}

@@ -1,4 +1,4 @@
-use Rattle.std.proofs.Common.{◌∙◌, true, false, true≢false, [], sym, ap, subst}
+use Rattle.std.proofs.Common.{◌∙◌, false, true≢false, [], sym, ap, subst}
 use Rattle.hrana_hub.specs.Moments.{LossFrees}
 use Rattle.hrana_hub.specs.Step.{Comes, TextSteps, is_exchange}
 use Rattle.hrana_hub.proofs.ArrivalAgreeing.{text_agrees, binary_agrees, opened_agrees}

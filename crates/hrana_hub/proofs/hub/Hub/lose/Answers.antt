@@ -1,12 +1,11 @@
-use Rattle.std.proofs.Common.{◌≡◌, ◌∙◌, None, Some, refl, sym, ap, subst}
+use Rattle.std.proofs.Common.{◌≡◌, ◌∙◌, None, Some, sym, ap, subst}
 use Rattle.hrana_hub.specs.Maps.{at}
 use Rattle.hrana_hub.specs.State.{State, Seen}
 use Rattle.hrana_hub.specs.Ended.{ends_of, without_conn}
 use Rattle.engine_core.specs.declared.entries.Undo.TheVariants as undo
-use Rattle.hrana_hub.specs.Adds.{Adds}
 use Rattle.hrana_hub.specs.Step.{LostAt, ExchangeLost}
 use Rattle.hrana_hub.specs.contracts.hub.Hub.{the_view}
-use Rattle.hrana_hub.proofs.Adding.{alike, adds_none, adds_from}
+use Rattle.hrana_hub.proofs.Adding.{alike, adds_from}
 use Rattle.hrana_hub.proofs.Ending.{lost_unknown, lost_known, lost_leaves, lost_frees}
 use Rattle.hrana_hub.proofs.hub.Hub.lose.Given as given
 use Rattle.hrana_hub.proofs.hub.Hub.lose.Goals as goal

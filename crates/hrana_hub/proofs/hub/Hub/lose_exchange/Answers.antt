@@ -1,9 +1,9 @@
-use Rattle.std.proofs.Common.{◌≡◌, ◌∙◌, None, Some, refl, sym, ap, subst, nat_cmp}
+use Rattle.std.proofs.Common.{◌≡◌, ◌∙◌, Some, refl, sym, ap, subst, nat_cmp}
 use Rattle.std.specs.List.Sorted.{IsStrictlySortedBy}
 use Rattle.std.specs.Map.{keys_of}
 use Rattle.engine_core.specs.declared.entries.Undo.TheVariants as undo
 use Rattle.hrana_hub.specs.Adds.{Adds}
-use Rattle.hrana_hub.specs.Ended.{end_of, FreesExchange, IsGone}
+use Rattle.hrana_hub.specs.Ended.{end_of, FreesExchange}
 use Rattle.hrana_hub.specs.Maps.{at}
 use Rattle.hrana_hub.specs.State.{State, Seen}
 use Rattle.hrana_hub.specs.Step.{ExchangeLost}
@@ -11,7 +11,6 @@ use Rattle.hrana_hub.specs.contracts.hub.Hub.{the_view}
 use Rattle.hrana_hub.proofs.Adding.{alike, adds_none, adds_from}
 use Rattle.hrana_hub.proofs.Ending.{exchange_unknown, exchange_lost, exchange_left, gone}
 use Rattle.hrana_hub.proofs.EntryLemmas.{at_without}
-use Rattle.hrana_hub.proofs.hub.Hub.lose_exchange.Given as given
 use Rattle.hrana_hub.proofs.hub.Hub.lose_exchange.Goals as goal
 
 pub returns-in_default-clause-adds : goal.returns-in_default-clause-adds

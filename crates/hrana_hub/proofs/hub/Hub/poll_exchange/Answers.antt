@@ -1,6 +1,4 @@
-use Rattle.std.proofs.Common.{◌≡◌, ◌∙◌, Some, sym, ap, subst}
 use Rattle.hrana_hub.specs.Maps.{at}
-use Rattle.hrana_hub.specs.ExchangeSettled.{IsRunning}
 use Rattle.hrana_hub.specs.Settled.{PollsStream}
 use Rattle.hrana_hub.specs.Polled.{with_task}
 use Rattle.hrana_hub.proofs.Adding.{adds_on}

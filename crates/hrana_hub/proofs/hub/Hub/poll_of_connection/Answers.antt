@@ -1,4 +1,4 @@
-use Rattle.std.proofs.Common.{◌≡◌, ◌∙◌, Some, None, refl, sym, ap}
+use Rattle.std.proofs.Common.{◌∙◌, refl, sym, ap}
 use Rattle.hrana_hub.specs.Calls.{is_heard}
 use Rattle.hrana_hub.specs.Maps.{at}
 use Rattle.hrana_hub.proofs.Adding.{alike, adds_none}

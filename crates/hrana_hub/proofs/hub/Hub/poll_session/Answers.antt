@@ -1,8 +1,8 @@
-use Rattle.std.proofs.Common.{◌≡◌, ◌∙◌, Some, refl, sym, ap, subst}
+use Rattle.std.proofs.Common.{◌∙◌, refl, sym, ap, subst}
 use Rattle.std.specs.Option.{IsSome}
 use Rattle.hrana_hub.specs.Maps.{at, without}
 use Rattle.hrana_hub.specs.ExchangeSettled.{Ends, given_up}
-use Rattle.hrana_hub.specs.State.{State, Seen}
+use Rattle.hrana_hub.specs.State.{State}
 use Rattle.hrana_hub.specs.Step.{PollSteps}
 use Rattle.hrana_hub.proofs.Adding.{alike, adds_from}
 use Rattle.hrana_hub.proofs.Agreeing.{places_agrees}

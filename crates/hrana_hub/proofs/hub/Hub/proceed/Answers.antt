@@ -1,10 +1,9 @@
-use Rattle.std.proofs.Common.{◌≡◌, ◌∙◌, Some, true, false, refl, sym, ap, subst}
+use Rattle.std.proofs.Common.{◌≡◌, ◌∙◌, sym, ap, subst}
 use Rattle.std.specs.Option.{IsSome}
 use Rattle.std.specs.Prelude.{is_err}
 use Rattle.pipeline_body.specs.Exchanges.{answered, is_over}
 use Rattle.hrana_hub.specs.Maps.{at}
-use Rattle.hrana_hub.specs.ExchangeSettled.{Settles, given_up}
-use Rattle.hrana_hub.specs.Exchanges.{in_session, with_reply}
+use Rattle.hrana_hub.specs.Exchanges.{in_session}
 use Rattle.hrana_hub.specs.State.{Seen}
 use Rattle.hrana_hub.specs.declared.sessions.Session.TheVariants.{Running}
 use Rattle.hrana_hub.proofs.Adding.{adds_until}

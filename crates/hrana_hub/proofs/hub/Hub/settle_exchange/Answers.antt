@@ -1,10 +1,9 @@
-use Rattle.std.proofs.Common.{◌≡◌, ◌∙◌, Some, refl, sym, ap, subst, is_some}
+use Rattle.std.proofs.Common.{◌≡◌, ◌∙◌, sym, ap, subst, is_some}
 use Rattle.stream_task.specs.declared.task.Poll.{Poll}
 use Rattle.stream_task.specs.declared.task.Poll.TheVariants.{Ready, Pending}
 use Rattle.stream_task.specs.declared.task.Stepped.{Stepped}
 use Rattle.stream_task.specs.declared.task.Stepped.TheVariants.{Replied, Broke, Ran, Idle}
 use Rattle.hrana_hub.specs.Polled.{FellShort, reply_in}
-use Rattle.hrana_hub.specs.Askers.{running_of}
 use Rattle.hrana_hub.proofs.Adding.{adds_as}
 use Rattle.hrana_hub.proofs.Polling.{some_of}
 use Rattle.hrana_hub.proofs.ExchangePolling.{gives_agree_running, gives_token, gives_running, settled_as, quiet_adds, SettlesRunning}

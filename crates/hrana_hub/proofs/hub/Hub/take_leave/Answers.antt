@@ -1,8 +1,8 @@
-use Rattle.std.proofs.Common.{◌≡◌, ◌∙◌, [], sym, ap, subst}
+use Rattle.std.proofs.Common.{◌∙◌, ap}
 use Rattle.engine_core.specs.declared.entries.Undo.TheVariants as undo
 use Rattle.hrana_hub.specs.Ended.{end_of}
 use Rattle.hrana_hub.specs.Maps.{at}
-use Rattle.hrana_hub.specs.State.{State, Seen}
+use Rattle.hrana_hub.specs.State.{Seen}
 use Rattle.hrana_hub.specs.contracts.hub.Hub.{the_view}
 use Rattle.hrana_hub.proofs.Adding.{alike, adds_until}
 use Rattle.hrana_hub.proofs.Polling.{some_of}
