@@ -20,3 +20,5 @@ pub mod Run
 pub mod Stories
 pub mod Versions
 pub mod Laws
+pub mod Talks
+pub mod Batons

@@ -1,15 +1,52 @@
 -- The lines of a script and the events that they stand for.
-use Rattle.std.specs.Prelude.{◌≡◌, ◌<◌, ◌^◌, List, ℕ, [], ◌∷◌, ◌++◌, true, codes, decimal}
+use Rattle.std.specs.Prelude.{◌≡◌, ◌≢◌, ◌<◌, ◌^◌, ◌⊎◌, List, ℕ, [], ◌∷◌, ◌++◌, All, Option, None, Some, true, false, bytes_eq, cond, codes, decimal, IsUtf8}
+use Rattle.http_wire.specs.declared.asks.HttpAsk.{HttpAsk}
+use Rattle.http_wire.specs.declared.asks.Method.{Method}
+use Rattle.http_wire.specs.declared.asks.Method.TheVariants as method
 use Rattle.hrana_hub.specs.declared.events.Event.{Event}
-use Rattle.hrana_hub.specs.declared.events.Event.TheVariants.{Opened, Text, Binary, Lost, Moment, Poll, Stop}
+use Rattle.hrana_hub.specs.declared.events.Event.TheVariants.{Opened, Text, Binary, Exchange, Lost, Moment, Poll, Stop}
 use Rattle.hrana_hub.specs.State.{State}
 use Rattle.hrana_hub.specs.Step.{fits}
+
+-- ---- an exchange
+
+-- UTF-8 without a space, and not empty
+pub record IsWord (word : List ℕ) : Type 0 where
+  pub filled : word ≢ []
+  pub whole : All (λ byte. byte ≢ 32) word
+  pub text : IsUtf8 word
+
+abbrev pub method_of : List ℕ → Method
+method_of word = cond (bytes_eq word (codes "GET")) method.Get (cond (bytes_eq word (codes "POST")) method.Post method.Other)
+
+-- `-` stands for no token
+abbrev pub bearer_of : List ℕ → Option (List ℕ)
+bearer_of word = cond (bytes_eq word (codes "-")) None (Some word)
+
+-- the body after a space, or nothing where it is missing
+abbrev pub IsBodyPart : List ℕ → List ℕ → Type 0
+IsBodyPart part body = ((part ≡ []) × (body ≡ [])) ⊎ (part ≡ 32 ∷ body)
+
+-- the method, the path and the token, and then the body
+pub record IsExchange (line : List ℕ) (conn : ℕ) (ask : HttpAsk) : Type 0 where
+  pub method_word : List ℕ
+  pub token_word : List ℕ
+  pub part : List ℕ
+  pub written : line ≡ codes "? " ++ (decimal conn ++ 32 ∷ (method_word ++ 32 ∷ (ask.path ++ 32 ∷ (token_word ++ part))))
+  pub words : IsWord method_word × IsWord ask.path × IsWord token_word
+  pub method : ask.method ≡ method_of method_word
+  pub bearer : ask.bearer ≡ bearer_of token_word
+  pub body : IsBodyPart part ask.body
+  pub stays : ask.close ≡ false
+
+-- ---- a line
 
 -- The line that an event is written as. Numbers are decimal, without a sign or a leading zero. `Stop` has no line.
 abbrev pub IsWritten : List ℕ → Event → Type 0
 IsWritten line (Opened conn) = line ≡ codes "+ " ++ decimal conn
 IsWritten line (Text conn text) = line ≡ codes "> " ++ (decimal conn ++ 32 ∷ text)
 IsWritten line (Binary conn) = line ≡ codes "# " ++ decimal conn
+IsWritten line (Exchange conn ask) = IsExchange line conn ask
 IsWritten line (Lost conn) = line ≡ codes "- " ++ decimal conn
 IsWritten line (Moment moment) = line ≡ codes "@ " ++ decimal moment
 IsWritten line (Poll stream) = line ≡ codes "! " ++ decimal stream.0
@@ -20,6 +57,7 @@ abbrev pub HasNumbers : Event → Type 0
 HasNumbers (Opened conn) = conn < 2 ^ 32
 HasNumbers (Text conn text) = conn < 2 ^ 32
 HasNumbers (Binary conn) = conn < 2 ^ 32
+HasNumbers (Exchange conn ask) = conn < 2 ^ 32
 HasNumbers (Lost conn) = conn < 2 ^ 32
 HasNumbers (Moment moment) = moment < 2 ^ 64
 HasNumbers (Poll stream) = stream.0 < 2 ^ 64
