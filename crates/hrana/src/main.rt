@@ -1,7 +1,7 @@
 //! The program `hrana`: the top call over standard input and output, the keeper in memory, and a journal in a file.
 #![tactic(auto)]
 
-use engine_core::{FileSink, ReaderSource, WriterSink};
+use engine_core::{CountTokens, FileSink, ReaderSource, WriterSink};
 use hrana_journal::LineJournal;
 use hrana_serve::{Status, World, hrana};
 use memory_keeper::MemoryKeeper;
@@ -29,11 +29,15 @@ A script has one event a line. Empty lines are passed over.
   + C       connection C, a number of 1 or more, opens
   > C TEXT  the client of C sends TEXT, one JSON message
   # C       the client of C sends a binary message
+  ? C METHOD PATH TOKEN BODY
+            an HTTP request comes in on connection C; TOKEN is - for none, and
+            BODY may be missing
   ! N       stream N runs the oldest statement that waits on it; streams are
             numbered from 1 in the order in which they were opened
   - C       connection C is lost
-A message that the server sends on C is printed as '< C TEXT', and a close of C
-with a code as 'x C CODE'.
+  @ T       T milliseconds have passed since the start
+A message that the server sends on C is printed as '< C TEXT', each line of an
+HTTP answer as '< C STATUS LINE', and a close of C with a code as 'x C CODE'.
 
 What statements did is noted in the file hrana.journal of the current folder,
 one JSON object a line. The first entry makes the file, in the place of an older
@@ -78,10 +82,14 @@ fn run_words(rt: &HostRuntime, words: &[&str]) -> Status {
     let Ok(engine) = MemoryKeeper::new(alloc) else {
         return Status::NoMemory;
     };
+    let Ok(tokens) = CountTokens::new(alloc, &[]) else {
+        return Status::NoMemory;
+    };
     let mut world = World {
         source: ReaderSource::new(rt.reader()),
         sink: WriterSink::new(io::writer(rt)),
         engine,
+        tokens,
         journal: LineJournal::new(alloc, FileSink::new(rt, JOURNAL)),
     };
     hrana(alloc, words, &mut world).status

@@ -296,12 +296,12 @@ free None e = refl
 free (Some n) e = absurd (cc)
 
 -- one more connection may be known
-record MayOpen (s : State) (c : ℕ) : Type 0 where
-  unknown : at c s.conns ≡ None
-  free : at c s.exchanges ≡ None
-  few : length s.conns + length s.exchanges < MAX_CONNECTIONS
+pub record MayOpen (s : State) (c : ℕ) : Type 0 where
+  pub unknown : at c s.conns ≡ None
+  pub free : at c s.exchanges ≡ None
+  pub few : length s.conns + length s.exchanges < MAX_CONNECTIONS
 
-opens_may : (s : State) (c : ℕ) → may_open s c ≡ true → MayOpen s c
+pub opens_may : (s : State) (c : ℕ) → may_open s c ≡ true → MayOpen s c
 opens_may s c may =
     let parts = and_parts (nat_lt 0 c && is_new s c) (nat_lt (length s.conns + length s.exchanges) MAX_CONNECTIONS) may in
     let own = and_parts (is_unknown (at c s.conns)) (is_free (at c s.exchanges)) (and_parts (nat_lt 0 c) (is_new s c) parts.0).1 in
@@ -478,8 +478,10 @@ may_counted s (Exchange c ask) = refl
 may_counted s (Poll stream) = refl
 may_counted s Stop = refl
 
+pub counted_may : (s : State) (event : Event) → fits s event ≡ true → may_come (counted s) event ≡ true
+counted_may s event f = may_counted s event ∙ (and_parts (not s.stopped && nat_lt s.events MAX_EVENTS) (may_come s event) f).1
+
 -- what the step of an event that fits does
 pub step_changes : (token : Option (List ℕ)) (shared : Bool) (s : State) (event : Event) (draws : List Draw) (added : List Entry) (out : Outs) (new : State) → fits s event ≡ true → Step token shared s event draws added out new → Change shared (counted s) added out new event
 step_changes token shared s event draws added out new f h =
-    let may : may_come s event ≡ true = (and_parts (not s.stopped && nat_lt s.events MAX_EVENTS) (may_come s event) f).1 in
-    comes_of_changes token shared (counted s) event draws added out new (may_counted s event ∙ may) h
+    comes_of_changes token shared (counted s) event draws added out new (counted_may s event f) h

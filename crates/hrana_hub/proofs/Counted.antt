@@ -71,7 +71,7 @@ pub record Counts (s : State) : Type 0 where
   -- no request of a stream of exchanges waits with an id
   pub idle : (n : ℕ) (x : Stream) → at n s.streams ≡ Some x → of_exchanges x ≡ true → x.waits ≡ []
 
-counted_counts : (s : State) → Counts s → Counts (counted s)
+pub counted_counts : (s : State) → Counts s → Counts (counted s)
 counted_counts s h = record { conn = h.conn; stream = h.stream; idle = h.idle }
 
 -- ---- requests behind others

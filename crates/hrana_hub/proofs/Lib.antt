@@ -37,3 +37,14 @@ pub mod ExchangePolling
 pub mod Drawing
 pub mod ExchangeArriving
 pub mod Hearing
+pub mod Moving
+pub mod MoveSteps
+pub mod Counting
+pub mod AnsweredOnce
+pub mod DeadBatons
+pub mod NoTokens
+pub mod BatonRuns
+pub mod Talking
+pub mod TalkSteps
+pub mod TalkPolls
+pub mod TalkRuns

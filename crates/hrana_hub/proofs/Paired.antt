@@ -59,7 +59,7 @@ later_length [] n e = absurd (omega (arith, e))
 later_length (id ∷ ids) n e = omega (arith, e)
 
 -- after a poll that found memory
-still_paired : (shared : Bool) (seen : Sees) (old : Task) (added : Option Entry) (result : Poll Stepped) (new : Task) (ids : List ℤ) → is_waiting old.asks ≡ true → Polls shared seen old added result new → result ≢ Ready stepped.Broke
+pub still_paired : (shared : Bool) (seen : Sees) (old : Task) (added : Option Entry) (result : Poll Stepped) (new : Task) (ids : List ℤ) → is_waiting old.asks ≡ true → Polls shared seen old added result new → result ≢ Ready stepped.Broke
     → length ids ≡ length old.asks → length (still_wait (reply_in result) ids) ≡ length new.asks
 still_paired shared seen old added result new ids waits p found e =
     let f = first_of old.asks waits in

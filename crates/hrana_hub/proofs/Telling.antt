@@ -168,7 +168,7 @@ told_ids ids (Ready stepped.Broke) e = refl
 told_ids ids Pending e = refl
 
 -- a unit that began did so at the version that the poll saw
-versioned : (had : ℕ → ℕ) (seen : Sees) (e : Option Entry) → All (BeganAt had seen.version) (option_to_list e) → IsVersioned had seen e
+pub versioned : (had : ℕ → ℕ) (seen : Sees) (e : Option Entry) → All (BeganAt had seen.version) (option_to_list e) → IsVersioned had seen e
 versioned had seen None h = tt
 versioned had seen (Some (entry.Began unit by)) h = All-head (BeganAt had seen.version) (entry.Began unit by) [] h
 versioned had seen (Some e) h = tt

@@ -74,7 +74,7 @@ PassesBy n event old new = Unit {0}
 
 pub data Says (token : Option (List ℕ)) (n : ℕ) (draws : List Draw) (added : List Entry) (out : Outs) (old new : State) : Event → Talk → Type 0 where
   polls : (stream : StreamNo) → stream.0 ≡ n → Says token n draws added out old new (Poll stream) (record { accepted = []; used = added; answers = answers_in out out.out })
-  accepted : (c : ℕ) (ask : HttpAsk) (body : PipelineBody) → Accepts token old ask draws n body
+  takes : (c : ℕ) (ask : HttpAsk) (body : PipelineBody) → Accepts token old ask draws n body
       → Says token n draws added out old new (Exchange c ask) (record { accepted = record { conn = c; asks = body.asks; close = ask.close } ∷ []; used = []; answers = answers_in out out.out })
   passes : (event : Event) → PassesBy n event old new → Says token n draws added out old new event no_talk
 
@@ -88,7 +88,7 @@ IsTalk {token} n (more {s = old} run event draws added out new fits step) t = (b
 
 abbrev pub works_in : List Accepted → List Work
 works_in [] = []
-works_in (a ∷ accepted) = works_of (asked_in a.asks) ++ works_in accepted
+works_in (a ∷ later) = works_of (asked_in a.asks) ++ works_in later
 
 -- The first of the exchanges have these answers, one each, in order: the results of its requests, by the replies to those that its
 -- stream was asked. The last may be the empty 503 instead, where there was no memory.

@@ -137,6 +137,7 @@ impl Hub {
         ensures entry { MatchOption result (self.old.noted.list ≡ []) (λ entry. self.old.noted.list ≡ entry ∷ self.new.noted.list) }
         ensures none { result ≡ None → self.new.noted.list ≡ [] }
         ensures state { (self.new.state ≡ self.old.state) × (self.new.turns ≡ self.old.turns) × (self.new.token ≡ self.old.token) }
+        ensures store { self.new.store ≡ self.old.store }
         ensures places { self.old.noted.spare ≤ self.new.noted.spare }
         ensures next { self.new.noted.next ≡ self.old.noted.next }
     {

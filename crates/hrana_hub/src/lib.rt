@@ -28,7 +28,9 @@ pub use agreement::{
 pub use events::Event;
 pub use hub::Hub;
 pub use laws::{
-    limits_hold, replies_follow_requests, runs_have_versions, the_dead_add_nothing,
+    dead_batons_change_nothing, exchanges_are_answered_in_order, exchanges_are_answered_once,
+    limits_hold, no_baton_is_accepted_twice, refusals_for_words_have_failed_draws,
+    replies_follow_requests, runs_have_versions, the_dead_add_nothing,
     waiting_requests_are_counted,
 };
 pub use limits::{

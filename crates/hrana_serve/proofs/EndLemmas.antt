@@ -4,6 +4,7 @@ use Rattle.std.proofs.lemmas.Bool.{lt-ltb}
 use Rattle.std.specs.Prelude.{nat_lt}
 use Rattle.std.proofs.KnownBytes.{Appends-nil}
 use Rattle.engine_core.specs.Causes.{Rose}
+use Rattle.engine_core.specs.Draws.{Draw}
 use Rattle.engine_core.specs.declared.entries.Entry.{Entry}
 use Rattle.engine_core.specs.declared.limits.TheConstants.{MAX_INPUT_BYTES}
 use Rattle.engine_core.specs.declared.status.Status.{Status}
@@ -28,10 +29,10 @@ use Rattle.hrana_serve.proofs.ReplayLemmas.{whole_front}
 stop_fits : (s : State) → s.stopped ≡ false → s.events < MAX_EVENTS → fits s Stop ≡ true
 stop_fits s going few = let less : nat_lt s.events MAX_EVENTS ≡ true = lt-ltb s.events MAX_EVENTS few in rw (going, less) refl
 
-pub halted_fits : (token : Option (List ℕ)) (shared : Bool) (all : List (List ℕ)) (end : Status) (s : State) (count : ℕ) (waits : List Entry) (held holds : Option (List ℕ)) (J : List Entry)
-    → Halted token shared all end s count waits held holds J → count ≤ MAX_INPUT_BYTES + 1 → fits s Stop ≡ true
-halted_fits token shared all end s count waits held holds J h few =
-    let c = lines_count token shared h.lines h.events h.entries h.outs s h.reads h.run in
+pub halted_fits : (token : Option (List ℕ)) (shared : Bool) (all : List (List ℕ)) (end : Status) (s : State) (count : ℕ) (waits : List Entry) (held holds : Option (List ℕ)) (K : List Draw) (J : List Entry)
+    → Halted token shared all end s count waits held holds K J → count ≤ MAX_INPUT_BYTES + 1 → fits s Stop ≡ true
+halted_fits token shared all end s count waits held holds K J h few =
+    let c = lines_count token shared h.lines h.events h.drawn h.entries h.outs s h.reads h.run in
     stop_fits s c.stopped (omega (arith, c.events, h.counted))
 
 -- ---- the last status
@@ -111,18 +112,19 @@ module _ (saved : Bool) (end last : Status) (first before now : ℕ) (waits : Li
 
   -- ---- the whole run
 
-  pub replayed_of : (token other : Option (List ℕ)) (shared : Bool) (all : List (List ℕ)) (s new : State) (count : ℕ) (left : List Entry) (held holds : Option (List ℕ)) (J ended : List Entry) → other ≡ token
-      → LastStatus saved end last before now waits → Halted token shared all end s count left held holds J → fits s Stop ≡ true → Step other shared s Stop ended nothing new → IsLeft left ended waits
-      → Replayed token shared all last count waits held holds (J ++ ended)
-  replayed_of token other shared all s new count left held holds J ended same is h fitted step l = record {
-    story = record { lines = h.lines; events = h.events; entries = h.entries; outs = h.outs; state = s; ended = ended; last = new };
+  pub replayed_of : (token other : Option (List ℕ)) (shared : Bool) (all : List (List ℕ)) (s new : State) (count : ℕ) (left : List Entry) (held holds : Option (List ℕ)) (K draws : List Draw) (J ended : List Entry) → other ≡ token
+      → LastStatus saved end last before now waits → Halted token shared all end s count left held holds K J → fits s Stop ≡ true → Step other shared s Stop draws ended nothing new → IsLeft left ended waits
+      → Replayed token shared all last count waits held holds (K ++ draws) (J ++ ended)
+  replayed_of token other shared all s new count left held holds K draws J ended same is h fitted step l = record {
+    story = record { lines = h.lines; events = h.events; drawn = h.drawn; entries = h.entries; outs = h.outs; state = s; ended = ended; last = new };
     is_story = record {
       front = h.front;
       reads = h.reads;
       counted = h.counted;
       run = h.run;
       fitted = fitted;
-      stop = subst (λ t. Step t shared s Stop ended nothing new) same step;
+      stop = subst (λ t. Step t shared s Stop [] ended nothing new) same (refl, step.1);
+      drew = ap (λ l. K ++ l) step.0 ∙ append-nil K ∙ h.drew;
       joined = ap (λ x. x ++ ended) h.joined;
     };
     stops = stops_last h.lines all s is h.stops;
@@ -157,10 +159,10 @@ early_writes status.InputTooLong held h = whole_front held held [] (Appends-nil 
 early_writes status.NoMemory held h = whole_front held held [] (Appends-nil held)
 early_writes end held h = absurd h
 
-pub early_replayed : (token : Option (List ℕ)) (shared : Bool) (all : List (List ℕ)) (end : Status) (held : Option (List ℕ)) → IsEarly end → Replayed token shared all end 0 [] held held []
+pub early_replayed : (token : Option (List ℕ)) (shared : Bool) (all : List (List ℕ)) (end : Status) (held : Option (List ℕ)) → IsEarly end → Replayed token shared all end 0 [] held held [] []
 early_replayed token shared all end held early = record {
-  story = record { lines = []; events = []; entries = []; outs = []; state = first_state; ended = []; last = at_its_end (counted first_state) };
-  is_story = record { front = record { rest = all; whole = refl }; reads = refl; counted = refl; run = start; fitted = refl; stop = (refl, refl, refl); joined = refl };
+  story = record { lines = []; events = []; drawn = []; entries = []; outs = []; state = first_state; ended = []; last = at_its_end (counted first_state) };
+  is_story = record { front = record { rest = all; whole = refl }; reads = refl; counted = refl; run = start; fitted = refl; stop = (refl, refl, refl, refl); drew = refl; joined = refl };
   stops = early_stops end all early;
   writes = early_writes end held early;
   answers = record { answered = []; others = []; told = []; untold = []; all = refl; given = refl; paired = refl; writes = whole_front held held [] (Appends-nil held); noted = []; wait = refl };

@@ -1,4 +1,5 @@
 pub mod CountLemmas
+pub mod DrawLemmas
 pub mod EndLemmas
 pub mod LineLemmas
 pub mod NoteLemmas

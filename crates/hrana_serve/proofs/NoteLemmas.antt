@@ -58,7 +58,7 @@ notes_then held mid holds waited between added waits p q = record {
 }
 
 pub taken_then : (a b c : Seen) → OnlyTaken a b → OnlyTaken b c → OnlyTaken a c
-taken_then a b c p q = record { state = q.state ∙ p.state; turns = q.turns ∙ p.turns; next = q.next ∙ p.next; places = omega (arith, p.places, q.places) }
+taken_then a b c p q = record { state = q.state ∙ p.state; turns = q.turns ∙ p.turns; store = q.store ∙ p.store; next = q.next ∙ p.next; places = omega (arith, p.places, q.places) }
 
 -- ---- what was added
 

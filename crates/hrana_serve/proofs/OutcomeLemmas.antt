@@ -4,6 +4,7 @@ use Rattle.std.specs.Prelude.{IfSome}
 use Rattle.serial_order.specs.Serial.{Meaning}
 use Rattle.engine_core.specs.Bytes.{lines_of}
 use Rattle.engine_core.specs.Causes.{Rose, RoseBy}
+use Rattle.engine_core.specs.Draws.{Draw}
 use Rattle.engine_core.specs.Journal.{entry_of, fault_count}
 use Rattle.engine_core.specs.Transactions.{Lives, NoneLive}
 use Rattle.engine_core.specs.Transfer.{given_count}
@@ -16,15 +17,19 @@ use Rattle.engine_core.specs.declared.status.Status.TheVariants as status
 use Rattle.stream_task.specs.Leads.{IsExplained, StandsExplained}
 use Rattle.hrana_hub.specs.Agrees.{HubStands}
 use Rattle.hrana_hub.specs.State.{Seen}
-use Rattle.hrana_hub.specs.Stories.{RepliesInOrder}
+use Rattle.hrana_hub.specs.Batons.{NoTokensByFailures, all_failures, no_tokens}
+use Rattle.hrana_hub.specs.Drawn.{DrawsFrom, failures}
 use Rattle.hrana_hub.specs.State.{first_state}
+use Rattle.hrana_hub.specs.Stories.{RepliesInOrder}
+use Rattle.hrana_hub.specs.Talks.{AnswersInOrder}
 use Rattle.hrana_hub.specs.Versions.{RunsHaveVersions}
 use Rattle.hrana_serve.specs.Clauses.{WithJournal}
 use Rattle.hrana_serve.specs.Notes.{AddsNoted, with_entries}
 use Rattle.hrana_serve.specs.Outcome.{Outcome, IsEarly, LeavesBy}
-use Rattle.hrana_serve.specs.Story.{HasStory, HasAnswered, HasReplies, IsFirstBad, Replayed}
+use Rattle.hrana_serve.specs.Story.{HasStory, HasAnswered, HasFewRefusals, HasReplies, IsFirstBad, Replayed}
 use Rattle.hrana_serve.specs.Replay.{StopsAs}
 use Rattle.hrana_serve.specs.Words.{IsReplay, token_in, AsksReplay}
+use Rattle.hrana_serve.proofs.DrawLemmas.{failures_joined, rose_less}
 use Rattle.hrana_serve.proofs.EndLemmas.{early_replayed}
 use Rattle.hrana_serve.proofs.NoteLemmas.{with_none}
 
@@ -47,7 +52,7 @@ module _ {X D J O : Type 0} (told shared : Bool) (m : Meaning D BoundStmt Answer
   -- ---- a run that ends before its first line
 
   pub early_outcome : (engine : X) (journal : J) (sink : O) (token left : Option (List ℕ)) (end : Status) (items : List Entry) → IsEarly end → items ≡ [] → NoneLive (live engine) → IsExplained shared m (db engine) [] (db engine)
-      → Outcome told shared m db live faults engine engine noted broken journal journal written failed sink sink token left end 0 items
+      → Outcome told shared m db live faults engine engine noted broken journal journal written failed sink sink token left end 0 items []
   early_outcome engine journal sink token left end items early none quiet explained = record {
     taken = [];
     grew = with_none (noted journal);
@@ -63,12 +68,12 @@ module _ {X D J O : Type 0} (told shared : Bool) (m : Meaning D BoundStmt Answer
 
   -- ---- a run over a hub that was new
 
-  pub run_outcome : (engine engine' : X) (journal journal' : J) (sink sink' : O) (token : Option (List ℕ)) (script : List ℕ) (end : Status) (count : ℕ) (items : List Entry) (old new : Seen)
-      → AddsNoted told shared m db live faults engine engine' old new (noted journal) (noted journal') (Replayed token shared (lines_of script) end count new.noted.list (written sink) (written sink'))
+  pub run_outcome : (engine engine' : X) (journal journal' : J) (sink sink' : O) (token : Option (List ℕ)) (script : List ℕ) (end : Status) (count : ℕ) (items : List Entry) (K : List Draw) (old new : Seen)
+      → AddsNoted told shared m db live faults engine engine' old new (noted journal) (noted journal') (Replayed token shared (lines_of script) end count new.noted.list (written sink) (written sink') K)
       → old.noted.list ≡ [] → items ≡ new.noted.list → HubStands shared m (db engine) [] (db engine) (live engine) old → StandsExplained shared m → NoneLive (live engine')
       → (end ≡ status.WriteFault → Rose (failed sink) (failed sink')) → (end ≡ status.JournalFault → Rose (broken journal) (broken journal')) → LeavesBy (broken journal) (broken journal') end new.noted.list → (end ≡ status.Done → new.noted.list ≡ [])
-      → Outcome told shared m db live faults engine engine' noted broken journal journal' written failed sink sink' token (Some script) end count items
-  run_outcome engine engine' journal journal' sink sink' token script end count items old new a none is stands law quiet write saving leaves done =
+      → Outcome told shared m db live faults engine engine' noted broken journal journal' written failed sink sink' token (Some script) end count items K
+  run_outcome engine engine' journal journal' sink sink' token script end count items K old new a none is stands law quiet write saving leaves done =
       let all : a.added ≡ a.notes.taken ++ new.noted.list = sym (ap (λ l. l ++ a.added) none) ∙ a.notes.all in
       record {
         taken = a.notes.taken;
@@ -89,39 +94,66 @@ with_journal : (held holds : Option (List Entry)) (taken unsaved : List Entry) (
 with_journal None holds taken unsaved P grew h = tt
 with_journal (Some old) holds taken unsaved P grew h = record { taken = taken; grew = grew; fact = h }
 
-module _ {X D J O : Type 0} {told shared : Bool} {m : Meaning D BoundStmt Answer} {db : X → D} {live : X → Lives D} {faults : X → ℕ} {engine engine' : X} {noted : J → Option (List Entry)} {broken : J → ℕ} {journal journal' : J}
-    {written : O → Option (List ℕ)} {failed : O → ℕ} {sink sink' : O} {token left : Option (List ℕ)} {end : Status} {count : ℕ} {unsaved : List Entry}
-    (o : Outcome told shared m db live faults engine engine' noted broken journal journal' written failed sink sink' token left end count unsaved) where
-  -- what is said of the entries and the script follows from the run
-  by_script : (P : List Entry → List ℕ → Type 0) → ((script : List ℕ) → Replayed token shared (lines_of script) end count unsaved (written sink) (written sink') (o.taken ++ unsaved) → P (o.taken ++ unsaved) script)
-      → WithJournal (noted journal) (noted journal') unsaved (λ entries. IfSome left (P entries))
-  by_script P f = with_journal (noted journal) (noted journal') o.taken unsaved (λ entries. IfSome left (P entries)) o.grew (weaker left _ (P (o.taken ++ unsaved)) f o.replayed)
+module _ {X D T J O : Type 0} {told shared : Bool} {m : Meaning D BoundStmt Answer} {db : X → D} {live : X → Lives D} {faults : X → ℕ} {engine engine' : X} {drawn : T → Option (List Draw)} {missed : T → ℕ} {tokens tokens' : T}
+    {noted : J → Option (List Entry)} {broken : J → ℕ} {journal journal' : J} {written : O → Option (List ℕ)} {failed : O → ℕ} {sink sink' : O} {token left : Option (List ℕ)} {end : Status} {count : ℕ} {unsaved : List Entry}
+    (d : DrawsFrom drawn missed tokens tokens' (Outcome told shared m db live faults engine engine' noted broken journal journal' written failed sink sink' token left end count unsaved)) where
+  abbrev Drawing : (List Draw → Type 0) → Type 0
+  Drawing P = DrawsFrom drawn missed tokens tokens' P
 
-  pub journal_fits : WithJournal (noted journal) (noted journal') unsaved (λ entries. IfSome left (λ script. HasStory token shared (lines_of script) end count entries))
-  journal_fits = by_script (λ entries script. HasStory token shared (lines_of script) end count entries) (λ script r. record { story = r.story; is_story = r.is_story; stops = r.stops })
+  -- the words are those of the outcome
+  as_drawn : (P : List Draw → Type 0) → P d.draws → Drawing P
+  as_drawn P p = record { draws = d.draws; told = d.told; cause = d.cause; holds = p }
+
+  abbrev Ran : List ℕ → Type 0
+  Ran script = Replayed token shared (lines_of script) end count unsaved (written sink) (written sink') d.draws (d.holds.taken ++ unsaved)
+
+  -- what is said of the words, the entries and the script follows from the run
+  by_script : (P : List ℕ → List Entry → List Draw → Type 0) → ((script : List ℕ) → Ran script → P script (d.holds.taken ++ unsaved) d.draws) → WithJournal (noted journal) (noted journal') unsaved (λ entries. IfSome left (λ script. Drawing (P script entries)))
+  by_script P f = with_journal (noted journal) (noted journal') d.holds.taken unsaved (λ entries. IfSome left (λ script. Drawing (P script entries))) d.holds.grew
+      (weaker left _ (λ script. Drawing (P script (d.holds.taken ++ unsaved))) (λ script r. as_drawn (P script (d.holds.taken ++ unsaved)) (f script r)) d.holds.replayed)
+
+  pub journal_fits : WithJournal (noted journal) (noted journal') unsaved (λ entries. IfSome left (λ script. Drawing (λ draws. HasStory token shared (lines_of script) end count draws entries)))
+  journal_fits = by_script (λ script entries draws. HasStory token shared (lines_of script) end count draws entries) (λ script r. record { story = r.story; is_story = r.is_story; stops = r.stops })
 
   pub serial_explains : IsTrue told → WithJournal (noted journal) (noted journal') unsaved (λ entries. IsExplained shared m (db engine) (map entry_of entries) (db engine'))
-  serial_explains t = with_journal (noted journal) (noted journal') o.taken unsaved (λ entries. IsExplained shared m (db engine) (map entry_of entries) (db engine')) o.grew (o.explained t)
+  serial_explains t = with_journal (noted journal) (noted journal') d.holds.taken unsaved (λ entries. IsExplained shared m (db engine) (map entry_of entries) (db engine')) d.holds.grew (d.holds.explained t)
 
-  pub output_exact : WithJournal (noted journal) (noted journal') unsaved (λ entries. IfSome left (λ script. Replayed token shared (lines_of script) end count unsaved (written sink) (written sink') entries))
-  output_exact = by_script (λ entries script. Replayed token shared (lines_of script) end count unsaved (written sink) (written sink') entries) (λ script r. r)
+  pub output_exact : WithJournal (noted journal) (noted journal') unsaved (λ entries. IfSome left (λ script. Drawing (λ draws. Replayed token shared (lines_of script) end count unsaved (written sink) (written sink') draws entries)))
+  output_exact = by_script (λ script entries draws. Replayed token shared (lines_of script) end count unsaved (written sink) (written sink') draws entries) (λ script r. r)
 
-  pub answered_is_journaled : WithJournal (noted journal) (noted journal') unsaved (λ entries. IfSome left (λ script. HasAnswered token shared (lines_of script) count unsaved (written sink) (written sink') entries))
-  answered_is_journaled = by_script (λ entries script. HasAnswered token shared (lines_of script) count unsaved (written sink) (written sink') entries) (λ script r. record { story = r.story; is_story = r.is_story; answers = r.answers })
+  pub answered_is_journaled : WithJournal (noted journal) (noted journal') unsaved (λ entries. IfSome left (λ script. Drawing (λ draws. HasAnswered token shared (lines_of script) count unsaved (written sink) (written sink') draws entries)))
+  answered_is_journaled = by_script (λ script entries draws. HasAnswered token shared (lines_of script) count unsaved (written sink) (written sink') draws entries) (λ script r. record { story = r.story; is_story = r.is_story; answers = r.answers })
 
-  pub replies_in_order : RepliesInOrder → RunsHaveVersions → WithJournal (noted journal) (noted journal') unsaved (λ entries. IfSome left (λ script. HasReplies token shared (lines_of script) count entries))
-  replies_in_order law versions = by_script (λ entries script. HasReplies token shared (lines_of script) count entries)
-      (λ script r. record { story = r.story; is_story = r.is_story; versions = versions token shared first_state r.story.events r.story.entries r.story.outs r.story.state r.is_story.run; in_order = λ had are n. law token shared r.story.events r.story.entries r.story.outs r.story.state r.is_story.run had are n })
+  pub replies_in_order : RepliesInOrder → AnswersInOrder → RunsHaveVersions → WithJournal (noted journal) (noted journal') unsaved (λ entries. IfSome left (λ script. Drawing (λ draws. HasReplies token shared (lines_of script) count draws entries)))
+  replies_in_order law answers versions = by_script (λ script entries draws. HasReplies token shared (lines_of script) count draws entries)
+      (λ script r. (let t = r.story in let run = r.is_story.run in record {
+        story = t;
+        is_story = r.is_story;
+        versions = versions token shared first_state t.events t.drawn t.entries t.outs t.state run;
+        in_order = λ had are n. law token shared t.events t.drawn t.entries t.outs t.state run had are n;
+        answered = λ had are n. answers token shared t.events t.drawn t.entries t.outs t.state run had are n;
+      }))
+
+  -- as many draws failed, at least
+  few_refusals : NoTokensByFailures → (script : List ℕ) → Ran script → HasFewRefusals token shared (lines_of script) count (missed tokens) (missed tokens') d.draws (d.holds.taken ++ unsaved)
+  few_refusals law script r =
+      let t = r.story in
+      let few = law token shared t.events t.drawn t.entries t.outs t.state r.is_story.run in
+      let all : failures d.draws ≡ all_failures t.drawn = ap failures r.is_story.drew ∙ failures_joined t.drawn in
+      record { story = t; is_story = r.is_story; cause = rose_less (no_tokens t.outs) (failures d.draws) (missed tokens) (missed tokens') (omega (arith, few, all)) d.cause }
+
+  pub token_faults : NoTokensByFailures → WithJournal (noted journal) (noted journal') unsaved (λ entries. IfSome left (λ script. Drawing (λ draws. HasFewRefusals token shared (lines_of script) count (missed tokens) (missed tokens') draws entries)))
+  token_faults law = by_script (λ script entries draws. HasFewRefusals token shared (lines_of script) count (missed tokens) (missed tokens') draws entries) (few_refusals law)
 
   -- the line that the run stopped at
-  bad_line : (number : ℕ) (script : List ℕ) → end ≡ status.BadScript number → Replayed token shared (lines_of script) end count unsaved (written sink) (written sink') (o.taken ++ unsaved) → IsFirstBad token shared (lines_of script) number count (o.taken ++ unsaved)
+  bad_line : (number : ℕ) (script : List ℕ) → end ≡ status.BadScript number → Ran script → IsFirstBad token shared (lines_of script) number count d.draws (d.holds.taken ++ unsaved)
   bad_line number script is r = record { story = r.story; is_story = r.is_story; stops = subst (λ x. StopsAs x r.story.lines (lines_of script) r.story.state) is r.stops }
 
-  pub bad_script : (number : ℕ) → end ≡ status.BadScript number → WithJournal (noted journal) (noted journal') unsaved (λ entries. IfSome left (λ script. IsFirstBad token shared (lines_of script) number count entries))
-  bad_script number is = by_script (λ entries script. IsFirstBad token shared (lines_of script) number count entries) (λ script r. bad_line number script is r)
+  pub bad_script : (number : ℕ) → end ≡ status.BadScript number → WithJournal (noted journal) (noted journal') unsaved (λ entries. IfSome left (λ script. Drawing (λ draws. IsFirstBad token shared (lines_of script) number count draws entries)))
+  bad_script number is = by_script (λ script entries draws. IsFirstBad token shared (lines_of script) number count draws entries) (λ script r. bad_line number script is r)
 
   pub engine_faults : WithJournal (noted journal) (noted journal') unsaved (λ entries. RoseBy (fault_count entries) (faults engine) (faults engine'))
-  engine_faults = with_journal (noted journal) (noted journal') o.taken unsaved (λ entries. RoseBy (fault_count entries) (faults engine) (faults engine')) o.grew o.cause
+  engine_faults = with_journal (noted journal) (noted journal') d.holds.taken unsaved (λ entries. RoseBy (fault_count entries) (faults engine) (faults engine')) d.holds.grew d.holds.cause
 
   -- ---- valid input is done
 
@@ -136,32 +168,30 @@ module _ {X D J O : Type 0} {told shared : Bool} {m : Meaning D BoundStmt Answer
   done_or_short status.ReadFault bad write saving words read long = absurd (read refl)
   done_or_short status.InputTooLong bad write saving words read long = absurd (long refl)
 
+  -- where no line is bad the run is done
+  abbrev IsComplete : List ℕ → List Entry → List Draw → Type 0
+  IsComplete script entries draws = length script ≤ MAX_INPUT_BYTES → ((number : ℕ) → IsFirstBad token shared (lines_of script) number count draws entries → ⊥) → (end ≡ status.Done) ⊎ (end ≡ status.NoMemory)
+
   -- no count rose
   complete_by : (other : Option (List ℕ)) → (end ≡ status.BadWords → ⊥) → (end ≡ status.ReadFault → ⊥) → (Rose (failed sink) (failed sink') → ⊥) → (Rose (broken journal) (broken journal') → ⊥)
-      → (script : List ℕ) → ((end ≡ status.InputTooLong) ↔ (MAX_INPUT_BYTES < given_count (Some script) other))
-      → Replayed token shared (lines_of script) end count unsaved (written sink) (written sink') (o.taken ++ unsaved)
-      → length script ≤ MAX_INPUT_BYTES → ((number : ℕ) → IsFirstBad token shared (lines_of script) number count (o.taken ++ unsaved) → ⊥) → (end ≡ status.Done) ⊎ (end ≡ status.NoMemory)
+      → (script : List ℕ) → ((end ≡ status.InputTooLong) ↔ (MAX_INPUT_BYTES < given_count (Some script) other)) → Ran script → IsComplete script (d.holds.taken ++ unsaved) d.draws
   complete_by other words read write saving script long r fits none =
-      done_or_short end (λ number is. none number (bad_line number script is r)) (λ is. write (o.write is)) (λ is. saving (o.saving is)) words read (λ is. (let more = long.0 is in omega (arith, more)))
+      done_or_short end (λ number is. none number (bad_line number script is r)) (λ is. write (d.holds.write is)) (λ is. saving (d.holds.saving is)) words read (λ is. (let more = long.0 is in omega (arith, more)))
 
-  complete_in : (given other : Option (List ℕ)) → given ≡ left → IfSome given (λ script. (end ≡ status.InputTooLong) ↔ (MAX_INPUT_BYTES < given_count given other)) → (end ≡ status.BadWords → ⊥) → (end ≡ status.ReadFault → ⊥) → (Rose (failed sink) (failed sink') → ⊥)
-      → (Rose (broken journal) (broken journal') → ⊥) → IfSome given (λ script. Replayed token shared (lines_of script) end count unsaved (written sink) (written sink') (o.taken ++ unsaved))
-      → IfSome given (λ script. length script ≤ MAX_INPUT_BYTES → ((number : ℕ) → IsFirstBad token shared (lines_of script) number count (o.taken ++ unsaved) → ⊥) → (end ≡ status.Done) ⊎ (end ≡ status.NoMemory))
-  complete_in None other is long words read write saving r = tt
-  complete_in (Some script) other is long words read write saving r = complete_by other words read write saving script long r
+  complete_in : (given other : Option (List ℕ)) → IfSome given (λ script. (end ≡ status.InputTooLong) ↔ (MAX_INPUT_BYTES < given_count given other)) → (end ≡ status.BadWords → ⊥) → (end ≡ status.ReadFault → ⊥) → (Rose (failed sink) (failed sink') → ⊥)
+      → (Rose (broken journal) (broken journal') → ⊥) → IfSome given Ran → IfSome given (λ script. Drawing (IsComplete script (d.holds.taken ++ unsaved)))
+  complete_in None other long words read write saving r = tt
+  complete_in (Some script) other long words read write saving r = as_drawn (IsComplete script (d.holds.taken ++ unsaved)) (complete_by other words read write saving script long r)
 
   pub complete : (other : Option (List ℕ)) → IfSome left (λ script. (end ≡ status.InputTooLong) ↔ (MAX_INPUT_BYTES < given_count left other)) → (end ≡ status.BadWords → ⊥) → (end ≡ status.ReadFault → ⊥) → (Rose (failed sink) (failed sink') → ⊥)
-      → (Rose (broken journal) (broken journal') → ⊥) → WithJournal (noted journal) (noted journal') unsaved (λ entries. IfSome left (λ script. length script ≤ MAX_INPUT_BYTES
-      → ((number : ℕ) → IsFirstBad token shared (lines_of script) number count entries → ⊥) → (end ≡ status.Done) ⊎ (end ≡ status.NoMemory)))
-  complete other long words read write saving = with_journal (noted journal) (noted journal') o.taken unsaved
-      (λ entries. IfSome left (λ script. length script ≤ MAX_INPUT_BYTES → ((number : ℕ) → IsFirstBad token shared (lines_of script) number count entries → ⊥) → (end ≡ status.Done) ⊎ (end ≡ status.NoMemory)))
-      o.grew (complete_in left other refl long words read write saving o.replayed)
+      → (Rose (broken journal) (broken journal') → ⊥) → WithJournal (noted journal) (noted journal') unsaved (λ entries. IfSome left (λ script. Drawing (IsComplete script entries)))
+  complete other long words read write saving = with_journal (noted journal) (noted journal') d.holds.taken unsaved (λ entries. IfSome left (λ script. Drawing (IsComplete script entries))) d.holds.grew (complete_in left other long words read write saving d.holds.replayed)
 
 -- the outcome over the source that the script was read from
 pub outcome_of : {X D J O : Type 0} {told shared : Bool} {m : Meaning D BoundStmt Answer} {db : X → D} {live : X → Lives D} {faults : X → ℕ} {engine engine' : X} {noted : J → Option (List Entry)} {broken : J → ℕ} {journal journal' : J}
-    {written : O → Option (List ℕ)} {failed : O → ℕ} {sink sink' : O} {token : Option (List ℕ)} {end : Status} {count : ℕ} {unsaved : List Entry} (left : Option (List ℕ)) (script : List ℕ) → IfSome left (λ all. all ≡ script)
-    → Outcome told shared m db live faults engine engine' noted broken journal journal' written failed sink sink' token (Some script) end count unsaved
-    → Outcome told shared m db live faults engine engine' noted broken journal journal' written failed sink sink' token left end count unsaved
+    {written : O → Option (List ℕ)} {failed : O → ℕ} {sink sink' : O} {token : Option (List ℕ)} {end : Status} {count : ℕ} {unsaved : List Entry} {K : List Draw} (left : Option (List ℕ)) (script : List ℕ) → IfSome left (λ all. all ≡ script)
+    → Outcome told shared m db live faults engine engine' noted broken journal journal' written failed sink sink' token (Some script) end count unsaved K
+    → Outcome told shared m db live faults engine engine' noted broken journal journal' written failed sink sink' token left end count unsaved K
 outcome_of left script is o = record {
   taken = o.taken;
   grew = o.grew;

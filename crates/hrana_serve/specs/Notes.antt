@@ -2,6 +2,7 @@
 use Rattle.std.specs.Prelude.{◌≡◌, ℕ, Bool, List, ◌++◌, Option, Result, Ok, Err, IsTrue, option_map}
 use Rattle.serial_order.specs.Serial.{Meaning}
 use Rattle.engine_core.specs.Causes.{RoseBy}
+use Rattle.engine_core.specs.Draws.{Draw}
 use Rattle.engine_core.specs.Journal.{fault_count}
 use Rattle.engine_core.specs.Transactions.{Lives}
 use Rattle.engine_core.specs.declared.statement.BoundStmt.{BoundStmt}
@@ -34,11 +35,11 @@ pub record AddsNoted {X D : Type 0} (told shared : Bool) (m : Meaning D BoundStm
   pub fact : P added
 
 -- the event was run, whatever it gave
-pub record IsStep (token : Option (List ℕ)) (shared : Bool) (s : State) (event : Event) (new : State) (added : List Entry) : Type 0 where
+pub record IsStep (token : Option (List ℕ)) (shared : Bool) (s : State) (event : Event) (new : State) (draws : List Draw) (added : List Entry) : Type 0 where
   pub outs : Outs
-  pub step : Step token shared s event added outs new
+  pub step : Step token shared s event draws added outs new
 
--- what came of an event whose entries the journal was to note
-abbrev pub RunsAs : Option (List ℕ) → Bool → State → Event → Result Outs JournalFail → State → List Entry → Type 0
-RunsAs token shared s event (Ok outs) new added = Step token shared s event added outs new
-RunsAs token shared s event (Err fail) new added = IsStep token shared s event new added
+-- what came of an event whose entries the journal was to note, by the words that were drawn for it
+abbrev pub RunsAs : Option (List ℕ) → Bool → State → Event → Result Outs JournalFail → State → List Draw → List Entry → Type 0
+RunsAs token shared s event (Ok outs) new draws added = Step token shared s event draws added outs new
+RunsAs token shared s event (Err fail) new draws added = IsStep token shared s event new draws added

@@ -3,6 +3,7 @@ use Rattle.std.specs.Prelude.{◌≡◌, ◌⊎◌, ℕ, Bool, List, [], ◌++�
 use Rattle.serial_order.specs.Serial.{Meaning}
 use Rattle.engine_core.specs.Bytes.{lines_of}
 use Rattle.engine_core.specs.Causes.{Rose, RoseBy}
+use Rattle.engine_core.specs.Draws.{Draw}
 use Rattle.engine_core.specs.Journal.{entry_of, fault_count}
 use Rattle.engine_core.specs.Transactions.{Lives, NoneLive}
 use Rattle.engine_core.specs.declared.statement.BoundStmt.{BoundStmt}
@@ -19,13 +20,13 @@ abbrev pub LeavesBy : ℕ → ℕ → Status → List Entry → Type 0
 LeavesBy before now end unsaved = (unsaved ≡ [] → ⊥) → Rose before now ⊎ (end ≡ status.NoMemory)
 
 -- What the journal noted, followed by what it didn't take, are the entries of the script's run, where the source tells the script.
--- They explain themselves and the last database, and the engine's count rose at least as often as they note faults.
+-- Words were drawn for it as K has them. The entries explain themselves and the last database, and the engine's count rose at least as often as they note faults.
 pub record Outcome {X D J O : Type 0} (told shared : Bool) (m : Meaning D BoundStmt Answer) (db : X → D) (live : X → Lives D) (faults : X → ℕ) (engine engine' : X)
     (noted : J → Option (List Entry)) (broke : J → ℕ) (journal journal' : J) (written : O → Option (List ℕ)) (failed : O → ℕ) (sink sink' : O)
-    (token left : Option (List ℕ)) (end : Status) (count : ℕ) (unsaved : List Entry) : Type 0 where
+    (token left : Option (List ℕ)) (end : Status) (count : ℕ) (unsaved : List Entry) (K : List Draw) : Type 0 where
   pub taken : List Entry
   pub grew : noted journal' ≡ with_entries (noted journal) taken
-  pub replayed : IfSome left (λ script. Replayed token shared (lines_of script) end count unsaved (written sink) (written sink') (taken ++ unsaved))
+  pub replayed : IfSome left (λ script. Replayed token shared (lines_of script) end count unsaved (written sink) (written sink') K (taken ++ unsaved))
   pub explained : IsTrue told → IsExplained shared m (db engine) (map entry_of (taken ++ unsaved)) (db engine')
   pub cause : RoseBy (fault_count (taken ++ unsaved)) (faults engine) (faults engine')
   pub quiet : NoneLive (live engine')

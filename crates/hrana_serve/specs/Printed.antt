@@ -14,7 +14,7 @@ abbrev pub print_line : List ℕ → List ℕ → List ℕ
 print_line head [] = head ++ 10 ∷ []
 print_line head (byte ∷ bytes) = head ++ 32 ∷ byte ∷ bytes ++ 10 ∷ []
 
--- Each line of an answer's body stands in a line of its own, after the status. The hub gives no answer yet.
+-- Each line of an answer's body stands in a line of its own, after the status. Where the body is empty that is one line.
 abbrev pub print_answer : ℕ → ℕ → List ℕ → List ℕ
 print_answer conn status body = flat_map (print_line (told_on conn ++ 32 ∷ [] ++ decimal status)) (lines_of body)
 

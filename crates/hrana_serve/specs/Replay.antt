@@ -3,6 +3,7 @@ use Rattle.std.specs.Prelude.{◌≡◌, ◌+◌, ◌≤◌, ℕ, Bool, true, fa
 use Rattle.std.specs.Io.KnownBytes.{Appends, Keeps}
 use Rattle.engine_core.specs.Bytes.{IsPrefix, AppendsFront}
 use Rattle.engine_core.specs.Causes.{Rose}
+use Rattle.engine_core.specs.Draws.{Draw}
 use Rattle.engine_core.specs.declared.entries.Entry.{Entry}
 use Rattle.engine_core.specs.declared.journal.JournalFail.{JournalFail}
 use Rattle.engine_core.specs.declared.journal.JournalFail.TheVariants as journal
@@ -22,28 +23,29 @@ use Rattle.hrana_serve.specs.declared.replay.WriteFail.TheVariants as write
 -- ---- one line
 
 -- The line's event fitted and was run, and so much was written of what it gave.
-pub record LineRun (token : Option (List ℕ)) (shared : Bool) (line : List ℕ) (s new : State) (Written : List ℕ → Type 0) (added : List Entry) : Type 0 where
+pub record LineRun (token : Option (List ℕ)) (shared : Bool) (line : List ℕ) (s new : State) (Written : List ℕ → Type 0) (draws : List Draw) (added : List Entry) : Type 0 where
   pub filled : line ≡ [] → ⊥
   pub event : Event
   pub is_line : IsLineOf line event
   pub fitted : fits s event ≡ true
   pub outs : Outs
-  pub step : Step token shared s event added outs new
+  pub step : Step token shared s event draws added outs new
   pub written : Written (print_outs outs)
 
--- nothing was added, written or changed
-pub record IsUntouched (s new : State) (held holds : Option (List ℕ)) (added : List Entry) : Type 0 where
+-- nothing was drawn, added, written or changed
+pub record IsUntouched (s new : State) (held holds : Option (List ℕ)) (draws : List Draw) (added : List Entry) : Type 0 where
+  pub undrawn : draws ≡ []
   pub none : added ≡ []
   pub same : new ≡ s
   pub silent : Keeps held holds
 
 -- what came of a line, by what the sink held before and after
-abbrev pub PlaysAs : Option (List ℕ) → Bool → List ℕ → State → LineEnd → State → Option (List ℕ) → Option (List ℕ) → List Entry → Type 0
-PlaysAs token shared line s Played new held holds added = LineRun token shared line s new (Appends held holds) added
-PlaysAs token shared line s Bad new held holds added = IsUntouched s new held holds added × IsBadLine s line
-PlaysAs token shared line s Short new held holds added = IsUntouched s new held holds added
-PlaysAs token shared line s (Unsaved fail) new held holds added = LineRun token shared line s new (λ bytes. Keeps held holds) added
-PlaysAs token shared line s (Unwritten fail) new held holds added = LineRun token shared line s new (AppendsFront held holds) added
+abbrev pub PlaysAs : Option (List ℕ) → Bool → List ℕ → State → LineEnd → State → Option (List ℕ) → Option (List ℕ) → List Draw → List Entry → Type 0
+PlaysAs token shared line s Played new held holds draws added = LineRun token shared line s new (Appends held holds) draws added
+PlaysAs token shared line s Bad new held holds draws added = IsUntouched s new held holds draws added × IsBadLine s line
+PlaysAs token shared line s Short new held holds draws added = IsUntouched s new held holds draws added
+PlaysAs token shared line s (Unsaved fail) new held holds draws added = LineRun token shared line s new (λ bytes. Keeps held holds) draws added
+PlaysAs token shared line s (Unwritten fail) new held holds draws added = LineRun token shared line s new (AppendsFront held holds) draws added
 
 -- the journal took all that the line's event added
 abbrev pub is_saved : LineEnd → Bool
@@ -52,18 +54,20 @@ is_saved other = true
 
 -- ---- lines so far
 
--- the entries of each event, joined
-abbrev pub join : List (List Entry) → List Entry
-join entries = flat_map (λ added. added) entries
+-- what each event drew, or its entries, joined
+abbrev pub join : {A : Type 0} → List (List A) → List A
+join parts = flat_map (λ part. part) parts
 
 -- The lines were played: their events were run, and all that they gave was written.
-pub record Playing (token : Option (List ℕ)) (shared : Bool) (lines : List (List ℕ)) (s : State) (count : ℕ) (held holds : Option (List ℕ)) (J : List Entry) : Type 0 where
+pub record Playing (token : Option (List ℕ)) (shared : Bool) (lines : List (List ℕ)) (s : State) (count : ℕ) (held holds : Option (List ℕ)) (K : List Draw) (J : List Entry) : Type 0 where
   pub events : List Event
+  pub drawn : List (List Draw)
   pub entries : List (List Entry)
   pub outs : List Outs
   pub reads : ReadsAs lines events
   pub counted : count ≡ length events
-  pub run : Run token shared events entries outs s
+  pub run : Run token shared events drawn entries outs s
+  pub drew : K ≡ join drawn
   pub joined : J ≡ join entries
   pub printed : Appends held holds (print outs)
 
@@ -116,15 +120,17 @@ pub record AnswersNoted (entries : List (List Entry)) (outs : List Outs) (last w
   pub wait : join others ++ last ≡ noted ++ waits
 
 -- The lines were played as far as the status says: the events are of some of the first lines, and so much was written of what they gave.
-pub record Halted (token : Option (List ℕ)) (shared : Bool) (all : List (List ℕ)) (end : Status) (s : State) (count : ℕ) (waits : List Entry) (held holds : Option (List ℕ)) (J : List Entry) : Type 0 where
+pub record Halted (token : Option (List ℕ)) (shared : Bool) (all : List (List ℕ)) (end : Status) (s : State) (count : ℕ) (waits : List Entry) (held holds : Option (List ℕ)) (K : List Draw) (J : List Entry) : Type 0 where
   pub lines : List (List ℕ)
   pub events : List Event
+  pub drawn : List (List Draw)
   pub entries : List (List Entry)
   pub outs : List Outs
   pub front : IsPrefix lines all
   pub reads : ReadsAs lines events
   pub counted : count ≡ length events
-  pub run : Run token shared events entries outs s
+  pub run : Run token shared events drawn entries outs s
+  pub drew : K ≡ join drawn
   pub joined : J ≡ join entries
   pub stops : StopsAs end lines all s
   pub writes : WritesAs end outs held holds

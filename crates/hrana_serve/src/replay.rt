@@ -7,6 +7,7 @@ ghost use Rattle.engine_core.specs.Transactions.{NoneLive};
 ghost use Rattle.engine_core.specs.declared.limits.TheConstants.{MAX_INPUT_BYTES};
 ghost use Rattle.hrana_hub.specs.Agrees.{HubAgrees};
 ghost use Rattle.hrana_hub.specs.Arrivals.{nothing};
+ghost use Rattle.hrana_hub.specs.Drawn.{DrawsFrom};
 ghost use Rattle.hrana_hub.specs.State.{first_state};
 ghost use Rattle.hrana_hub.specs.Step.{Step, fits};
 ghost use Rattle.hrana_serve.specs.Notes.{AddsNoted};
@@ -18,7 +19,7 @@ use crate::lines::next_line;
 use crate::notes::{note_entries, run_event};
 use crate::prints::print_outs;
 use crate::script::{LineFail, event_of_line};
-use engine_core::{Engine, Journal, JournalFail, Sink, Status, write_all};
+use engine_core::{Engine, Journal, JournalFail, Sink, Status, Tokens, write_all};
 use hrana_hub::{Event, Hub, nothing_lives_without_streams, taken_entries_leave_agreement};
 use http_wire::Outs;
 use std::alloc::Global;
@@ -77,19 +78,20 @@ fn write_outs<O: Sink>(alloc: Global, outs: &Outs, sink: &mut O) -> Result<(), W
 }
 
 /// Runs the event of a line that isn't empty, notes its entries, and then writes what it gives.
-fn play_line<E: Engine, J: Journal, O: Sink>(
+fn play_line<E: Engine, T: Tokens, J: Journal, O: Sink>(
     alloc: Global,
     line: &[u8],
     hub: &mut Hub,
     engine: &mut E,
+    tokens: &mut T,
     journal: &mut J,
     sink: &mut O,
 ) -> LineEnd
     requires filled { 0 < length line.now }
     requires agrees { HubAgrees E.told E.SHARED (E.db engine.old) (E.live engine.old) hub.old }
     requires saved { hub.old.noted.list ≡ [] }
-    ensures adds { AddsNoted E.told E.SHARED E.meaning E.db E.live E.faults engine.old engine.new hub.old hub.new (J.noted journal.old) (J.noted journal.new)
-        (PlaysAs hub.old.token E.SHARED line.now hub.old.state result hub.new.state (O.written sink.old) (O.written sink.new)) }
+    ensures adds { DrawsFrom T.drawn T.faults tokens.old tokens.new (λ draws. AddsNoted E.told E.SHARED E.meaning E.db E.live E.faults engine.old engine.new hub.old hub.new (J.noted journal.old) (J.noted journal.new)
+        (PlaysAs hub.old.token E.SHARED line.now hub.old.state result hub.new.state (O.written sink.old) (O.written sink.new) draws)) }
     ensures agrees { HubAgrees E.told E.SHARED (E.db engine.new) (E.live engine.new) hub.new }
     ensures token { hub.new.token ≡ hub.old.token }
     ensures saved { is_saved result ≡ true → hub.new.noted.list ≡ [] }
@@ -104,7 +106,7 @@ fn play_line<E: Engine, J: Journal, O: Sink>(
         Err(LineFail::NoEvent) => return LineEnd::Bad,
         Err(LineFail::NoMemory) => return LineEnd::Short,
     };
-    let outs = match run_event(hub, engine, journal, event) {
+    let outs = match run_event(hub, engine, tokens, journal, event) {
         Ok(outs) => outs,
         Err(fail) => return LineEnd::Unsaved(fail),
     };
@@ -153,11 +155,12 @@ fn halt_at(end: LineEnd, at: u64, events: u64) -> Halt
 }
 
 /// Plays the lines of a script up to their end or the first that stops the run.
-pub fn play_lines<E: Engine, J: Journal, O: Sink>(
+pub fn play_lines<E: Engine, T: Tokens, J: Journal, O: Sink>(
     alloc: Global,
     script: &[u8],
     hub: &mut Hub,
     engine: &mut E,
+    tokens: &mut T,
     journal: &mut J,
     sink: &mut O,
 ) -> Halt
@@ -165,8 +168,8 @@ pub fn play_lines<E: Engine, J: Journal, O: Sink>(
     requires saved { hub.old.noted.list ≡ [] }
     requires agrees { HubAgrees E.told E.SHARED (E.db engine.old) (E.live engine.old) hub.old }
     requires short { length script.now ≤ MAX_INPUT_BYTES }
-    ensures adds { AddsNoted E.told E.SHARED E.meaning E.db E.live E.faults engine.old engine.new hub.old hub.new (J.noted journal.old) (J.noted journal.new)
-        (Halted hub.old.token E.SHARED (lines_of script.now) result.status hub.new.state result.events hub.new.noted.list (O.written sink.old) (O.written sink.new)) }
+    ensures adds { DrawsFrom T.drawn T.faults tokens.old tokens.new (λ draws. AddsNoted E.told E.SHARED E.meaning E.db E.live E.faults engine.old engine.new hub.old hub.new (J.noted journal.old) (J.noted journal.new)
+        (Halted hub.old.token E.SHARED (lines_of script.now) result.status hub.new.state result.events hub.new.noted.list (O.written sink.old) (O.written sink.new) draws)) }
     ensures agrees { HubAgrees E.told E.SHARED (E.db engine.new) (E.live engine.new) hub.new }
     ensures token { hub.new.token ≡ hub.old.token }
     ensures ends { IsLinesStatus result.status }
@@ -187,7 +190,7 @@ pub fn play_lines<E: Engine, J: Journal, O: Sink>(
         if line.is_empty() {
             continue;
         }
-        match play_line(alloc, line, hub, engine, journal, sink) {
+        match play_line(alloc, line, hub, engine, tokens, journal, sink) {
             LineEnd::Played => events += 1,
             end => return halt_at(end, at, events),
         }
@@ -214,23 +217,24 @@ fn last_status(status: Status, noted: Result<(), JournalFail>) -> Status
 }
 
 /// Runs `Stop`, and notes its entries unless the journal has failed before. The status is the last one of the run.
-pub fn stop<E: Engine, J: Journal>(
+pub fn stop<E: Engine, T: Tokens, J: Journal>(
     hub: &mut Hub,
     engine: &mut E,
+    tokens: &mut T,
     journal: &mut J,
     halt: Halt,
 ) -> Status
     requires fits { fits hub.old.state Event.Stop ≡ true }
     requires agrees { HubAgrees E.told E.SHARED (E.db engine.old) (E.live engine.old) hub.old }
-    ensures adds { AddsNoted E.told E.SHARED E.meaning E.db E.live E.faults engine.old engine.new hub.old hub.new (J.noted journal.old) (J.noted journal.new)
-        (λ ended. Step hub.old.token E.SHARED hub.old.state Event.Stop ended nothing hub.new.state) }
+    ensures adds { DrawsFrom T.drawn T.faults tokens.old tokens.new (λ draws. AddsNoted E.told E.SHARED E.meaning E.db E.live E.faults engine.old engine.new hub.old hub.new (J.noted journal.old) (J.noted journal.new)
+        (λ ended. Step hub.old.token E.SHARED hub.old.state Event.Stop draws ended nothing hub.new.state)) }
     ensures quiet { NoneLive (E.live engine.new) }
     ensures last { LastStatus halt.saved halt.status result (J.faults journal.old) (J.faults journal.new) hub.new.noted.list }
     ensures later { J.faults journal.old ≤ J.faults journal.new }
 {
     taken_entries_leave_agreement::<E>();
     nothing_lives_without_streams::<E>();
-    let _nothing = hub.step(engine, Event::Stop);
+    let _nothing = hub.step(engine, tokens, Event::Stop);
     if halt.saved {
         last_status(halt.status, note_entries(hub, journal))
     } else {

@@ -1,7 +1,7 @@
 // Scripts played by the top call over memory, and what is to come of them.
 ghost use Rattle.engine_core.specs.Transactions.{NoneLive};
 
-use engine_core::{ByteSink, ByteSource, Engine, NoMemory};
+use engine_core::{ByteSink, ByteSource, CountTokens, Engine, NoMemory};
 use hrana_journal::MemoryJournal;
 use hrana_serve::{Ended, Status, World, hrana};
 use std::alloc::Global;
@@ -14,6 +14,7 @@ pub struct Faults {
     pub read: u64,
     pub write: u64,
     pub note: u64,
+    pub draw: u64,
 }
 
 impl Faults {
@@ -21,6 +22,7 @@ impl Faults {
         read: 0,
         write: 0,
         note: 0,
+        draw: 0,
     };
 }
 
@@ -45,6 +47,7 @@ pub fn play<E: Engine + Drop>(
         source: ByteSource::new(alloc, script.as_bytes(), &[faults.read])?,
         sink: ByteSink::new(alloc, &[faults.write])?,
         engine,
+        tokens: CountTokens::new(alloc, &[faults.draw])?,
         journal: MemoryJournal::new(alloc, &[faults.note])?,
     };
     let ended = hrana(alloc, words, &mut world);

@@ -418,7 +418,12 @@ fn faults_of_source_sink_and_journal_end_the_run(rt: HostRuntime) -> Result<(), 
             &rt,
             alloc,
             script.as_str(),
-            Faults { read, write, note },
+            Faults {
+                read,
+                write,
+                note,
+                draw: 0,
+            },
             PlainKeeper::new(alloc)?,
             wanted,
         )?;

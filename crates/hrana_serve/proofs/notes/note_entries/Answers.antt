@@ -8,7 +8,7 @@ loop-entry-preserved g c =
     let t = c.take_entry.ensures in
     record {
       notes = notes_taken _ _ _ _ _ _ _ _ c.in-Some.ensures t.entry c.in_ok-note.ensures.ok i.notes;
-      taken = taken_then _ _ _ i.taken (record { state = t.state.0; turns = t.state.1; next = t.next; places = t.places });
+      taken = taken_then _ _ _ i.taken (record { state = t.state.0; turns = t.state.1; store = t.store; next = t.next; places = t.places });
       token = t.state.2 ∙ i.token;
       later = omega (arith, i.later, c.note.ensures.later);
     }

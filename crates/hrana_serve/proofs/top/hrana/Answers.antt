@@ -1,4 +1,4 @@
-use Rattle.hrana_serve.proofs.OutcomeLemmas.{journal_fits, replies_in_order, serial_explains, output_exact, answered_is_journaled, bad_script, complete, engine_faults}
+use Rattle.hrana_serve.proofs.OutcomeLemmas.{journal_fits, replies_in_order, serial_explains, output_exact, answered_is_journaled, bad_script, complete, engine_faults, token_faults}
 use Rattle.hrana_serve.proofs.top.hrana.Goals as goal
 
 pub returns-clause-journal_fits : goal.returns-clause-journal_fits
@@ -24,4 +24,7 @@ pub returns-clause-engine_faults : goal.returns-clause-engine_faults
 returns-clause-engine_faults g c = engine_faults c.answer.ensures.outcome
 
 pub returns-clause-replies_in_order : goal.returns-clause-replies_in_order
-returns-clause-replies_in_order g c = replies_in_order c.answer.ensures.outcome c.replies_follow_requests.ensures c.runs_have_versions.ensures
+returns-clause-replies_in_order g c = replies_in_order c.answer.ensures.outcome c.replies_follow_requests.ensures c.exchanges_are_answered_in_order.ensures c.runs_have_versions.ensures
+
+pub returns-clause-token_faults : goal.returns-clause-token_faults
+returns-clause-token_faults g c = token_faults c.answer.ensures.outcome c.refusals_for_words_have_failed_draws.ensures
