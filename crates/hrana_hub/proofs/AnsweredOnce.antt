@@ -5,20 +5,20 @@ use Rattle.http_wire.specs.declared.outs.Outs.{Outs}
 use Rattle.engine_core.specs.Draws.{Draw}
 use Rattle.engine_core.specs.declared.entries.Entry.{Entry}
 use Rattle.hrana_hub.specs.declared.events.Event.{Event}
-use Rattle.hrana_hub.specs.declared.events.Event.TheVariants.{Exchange, Lost, Stop}
+use Rattle.hrana_hub.specs.declared.events.Event.TheVariants.{Exchange}
 use Rattle.hrana_hub.specs.declared.sessions.Running.{Running as Runs}
 use Rattle.hrana_hub.specs.declared.sessions.Session.{Session}
 use Rattle.hrana_hub.specs.declared.sessions.Session.TheVariants.{Resting, Running}
 use Rattle.hrana_hub.specs.Maps.{at, placed, without}
 use Rattle.hrana_hub.specs.State.{State}
-use Rattle.hrana_hub.specs.Batons.{AnsweredOnce, is_answer, answers_on, exchanges_on, is_exchange_on, running_on}
+use Rattle.hrana_hub.specs.Batons.{AnsweredOnce, is_answer, answers_on, exchanges_on, running_on}
 use Rattle.hrana_hub.specs.Run.{Run, start, more}
 use Rattle.hrana_hub.specs.Step.{counted}
 use Rattle.hrana_hub.proofs.EntryLemmas.{at_without, at_without_other}
 use Rattle.hrana_hub.proofs.Kept.{run_kept}
 use Rattle.hrana_hub.proofs.MapLemmas.{none_some, some_one, at_placed, at_placed_other, Rises}
 use Rattle.hrana_hub.proofs.MoveSteps.{step_moves, none_on}
-use Rattle.hrana_hub.proofs.Moving.{Waits, FewerBut, IsNoAnswer, Ends, comes, replies, lost, Moves, still, begins_on, goes_on, hands, leaves, stops}
+use Rattle.hrana_hub.proofs.Moving.{Waits, FewerBut, Ends, comes, replies, lost, Moves, still, begins_on, goes_on, hands, leaves, stops}
 
 -- ---- each exchange that runs is known by its connection
 
@@ -29,7 +29,6 @@ one_running : {e f : Runs} → ◌≡◌ {A = Session} (Running e) (Running f) �
 one_running h = cc
 
 module _ (s : State) (known : RunsKnown s) (out : Outs) where
-
   -- no other stream has the connection of an exchange that ends
   ends_at : {event : Event} (n c : ℕ) → Ends s n c out event → (at c s.exchanges ≡ None) ⊎ (at c s.exchanges ≡ Some n)
   ends_at n c (comes ask free own) = inl free

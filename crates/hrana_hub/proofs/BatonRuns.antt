@@ -1,11 +1,11 @@
 -- Once an exchange that brings a baton was accepted, that baton is never live again.
-use Rattle.std.proofs.Common.{◌≡◌, ◌≢◌, ◌≤◌, ◌<◌, ◌+◌, ◌^◌, ◌&&◌, ◌⊎◌, ℕ, Bool, true, false, not, nat_lt, List, [], ◌∷◌, Option, None, Some, refl, sym, ap, ◌∙◌, subst, arith, inl, inr}
+use Rattle.std.proofs.Common.{◌≡◌, ◌≤◌, ◌<◌, ◌+◌, ◌^◌, ◌&&◌, ℕ, Bool, true, false, not, nat_lt, List, [], ◌∷◌, Option, None, Some, refl, sym, ap, ◌∙◌, subst, arith, inl, inr}
 use Rattle.std.proofs.lemmas.Bool.{and_parts, ltb-true, true≢false}
 use Rattle.http_wire.specs.declared.asks.HttpAsk.{HttpAsk}
 use Rattle.http_wire.specs.declared.outs.HttpAnswer.{HttpAnswer}
 use Rattle.http_wire.specs.declared.outs.Outs.{Outs}
 use Rattle.stream_requests.specs.declared.asks.Ask.{Ask}
-use Rattle.pipeline_body.specs.Bodies.{IsBody, NoBytesHaveTwoBodyReadings}
+use Rattle.pipeline_body.specs.Bodies.{NoBytesHaveTwoBodyReadings}
 use Rattle.pipeline_body.specs.Exchanges.{IsAsked, route_answer, begins, asked_in, is_over}
 use Rattle.pipeline_body.specs.declared.bodies.PipelineBody.{PipelineBody}
 use Rattle.pipeline_body.specs.declared.exchange.Asked.{Asked}
@@ -21,10 +21,10 @@ use Rattle.hrana_hub.specs.declared.sessions.Issued.{Issued}
 use Rattle.hrana_hub.specs.declared.sessions.Running.{Running as Runs}
 use Rattle.hrana_hub.specs.declared.sessions.Session.{Session}
 use Rattle.hrana_hub.specs.declared.sessions.Session.TheVariants.{Resting, Running}
-use Rattle.hrana_hub.specs.Maps.{Numbered, at, put}
+use Rattle.hrana_hub.specs.Maps.{at, put}
 use Rattle.hrana_hub.specs.State.{Stream, State}
 use Rattle.hrana_hub.specs.Arrivals.{accepts}
-use Rattle.hrana_hub.specs.Batons.{IsNotLive, NoBatonTwice}
+use Rattle.hrana_hub.specs.Batons.{NoBatonTwice}
 use Rattle.hrana_hub.specs.Exchanges.{Awaits, starts_if, Does, GoesBy, GoesDrawn, GoesAsked, IsHeard}
 use Rattle.hrana_hub.specs.Run.{Run, RunFrom, start, more}
 use Rattle.hrana_hub.specs.Step.{ExchangeFell, ExchangeGoes, Step, is_short, counted, may_come, fits}
@@ -33,7 +33,7 @@ use Rattle.hrana_hub.proofs.Changes.{step_changes}
 use Rattle.hrana_hub.proofs.Counting.{came_events}
 use Rattle.hrana_hub.proofs.DeadBatons.{one_body, no_unreadable}
 use Rattle.hrana_hub.proofs.Kept.{counted_kept, change_kept, run_kept, from_kept}
-use Rattle.hrana_hub.proofs.MapLemmas.{none_some, some_one}
+use Rattle.hrana_hub.proofs.MapLemmas.{none_some}
 use Rattle.hrana_hub.proofs.MoveSteps.{step_moves, either}
 use Rattle.hrana_hub.proofs.Moving.{Waits, FewerBut, Moves, still, begins_on, goes_on, hands, leaves, stops, handed, but_put}
 use Rattle.hrana_hub.proofs.Standing.{Kept}

@@ -1,5 +1,5 @@
 -- Each event is counted, and only `Stop` stops.
-use Rattle.std.proofs.Common.{◌≡◌, ◌+◌, ℕ, Bool, true, false, cond, List, [], ◌∷◌, ◌++◌, length, length-append, Option, None, Some, Result, Ok, Err, refl, sym, ap, ◌∙◌, subst, arith, inl, inr}
+use Rattle.std.proofs.Common.{◌≡◌, ◌+◌, ℕ, Bool, true, false, cond, List, length, Option, None, Some, Result, Ok, Err, refl, sym, ap, subst, inl, inr}
 use Rattle.std.specs.Prelude.{MatchBool, nat_lt, nat_le, ℤ}
 use Rattle.hrana_value.specs.declared.failures.Decline.{Decline}
 use Rattle.stream_requests.specs.declared.asks.Ask.{Ask}
@@ -33,13 +33,13 @@ use Rattle.hrana_hub.specs.declared.sessions.Session.{Session}
 use Rattle.hrana_hub.specs.declared.sessions.Session.TheVariants.{Resting, Running}
 use Rattle.stream_task.specs.Texts.{is_full}
 use Rattle.hrana_hub.specs.Arrivals.{Went, quiet, closing, accepts, on_hello, opens_unless, opens, asks, asks_at, queues, unopened, stores_unless, stores, on_request, on_numbered, on_answer, nothing}
-use Rattle.hrana_hub.specs.Exchanges.{starts, starts_if, proceeds, proceeds_if, concludes, replies_to, with_reply, with_session, fresh_session, sessions_in, opens_unless as session_opens, Does, GoesBy, GoesOn as SessionGoesOn, GoesDrawn, GoesAsked, SessionPolled, SessionFell, IsHeard}
+use Rattle.hrana_hub.specs.Exchanges.{starts_if, proceeds_if, concludes, replies_to, with_reply, with_session, fresh_session, sessions_in, opens_unless as session_opens, Does, GoesBy, GoesDrawn, GoesAsked, SessionPolled, SessionFell, IsHeard}
 use Rattle.hrana_hub.specs.Maps.{at, id_at}
 use Rattle.hrana_hub.specs.Polled.{reply_in, with_entry, with_task}
 use Rattle.hrana_hub.specs.Moments.{expiries, at_moment}
 use Rattle.hrana_hub.specs.Ended.{all_ends, at_its_end}
 use Rattle.hrana_hub.specs.State.{Conn, Stream, State}
-use Rattle.hrana_hub.specs.Step.{Goes, ReadText, OpenText, Heard, PolledBy, PolledAt, ExchangeLost, LostAt, Happens, TextFell, PollFellOn, PollFellBy, PollFellAt, Falls, ExchangeFell, ExchangeGoes, is_short, counted, ComesOf, Step}
+use Rattle.hrana_hub.specs.Step.{Goes, ReadText, OpenText, Heard, PolledBy, PolledAt, ExchangeLost, LostAt, Happens, TextFell, PollFellOn, PollFellBy, PollFellAt, Falls, ExchangeFell, ExchangeGoes, is_short, ComesOf, Step}
 use Rattle.hrana_hub.specs.Texts.{put_ask}
 
 pub record SameCount (s new : State) : Type 0 where

@@ -1,21 +1,19 @@
 -- An exchange whose baton isn't live changes nothing.
-use Rattle.std.proofs.Common.{◌≡◌, ◌≢◌, ℕ, Bool, true, false, List, [], ◌∷◌, Option, None, Some, Ok, Err, refl, sym, ap, ◌∙◌, subst, inl, inr}
-use Rattle.std.proofs.lemmas.Bool.{true≢false}
+use Rattle.std.proofs.Common.{◌≡◌, ℕ, Bool, List, Option, None, Some, Ok, Err, ap, ◌∙◌, subst, inl, inr}
 use Rattle.http_wire.specs.declared.asks.HttpAsk.{HttpAsk}
 use Rattle.http_wire.specs.declared.outs.HttpAnswer.{HttpAnswer}
 use Rattle.http_wire.specs.declared.outs.Outs.{Outs}
-use Rattle.pipeline_body.specs.Bodies.{IsBody, BodyReading, is_body, is_none, NoBytesHaveTwoBodyReadings}
+use Rattle.pipeline_body.specs.Bodies.{IsBody, is_body, is_none, NoBytesHaveTwoBodyReadings}
 use Rattle.pipeline_body.specs.Exchanges.{IsAsked, IsUnreadable, route_answer, begins, asked_in}
 use Rattle.pipeline_body.specs.declared.bodies.PipelineBody.{PipelineBody}
 use Rattle.pipeline_body.specs.declared.exchange.Asked.{Asked}
 use Rattle.pipeline_body.specs.declared.exchange.Asked.TheVariants.{Answered, Pipeline}
 use Rattle.engine_core.specs.Draws.{Draw, words, failed}
-use Rattle.engine_core.specs.declared.entries.Entry.{Entry}
 use Rattle.hrana_hub.specs.Arrivals.{accepts}
 use Rattle.hrana_hub.specs.Batons.{IsNotLive, DeadBatonsChangeNothing}
 use Rattle.hrana_hub.specs.Exchanges.{Awaits, GoesBy, GoesDrawn, GoesAsked, IsHeard}
 use Rattle.hrana_hub.specs.State.{State}
-use Rattle.hrana_hub.specs.Step.{ExchangeFell, ExchangeGoes, Step, is_short, counted}
+use Rattle.hrana_hub.specs.Step.{ExchangeFell, ExchangeGoes, is_short, counted}
 use Rattle.hrana_hub.proofs.MoveSteps.{either}
 
 pub one_body : NoBytesHaveTwoBodyReadings → (bytes : List ℕ) (a b : PipelineBody) → IsBody bytes a → IsBody bytes b → a ≡ b

@@ -1,5 +1,5 @@
 -- What each event does to the exchanges.
-use Rattle.std.proofs.Common.{◌≡◌, ◌≢◌, ◌≤◌, ◌+◌, ◌&&◌, ◌⊎◌, ℕ, ℤ, Bool, true, false, cond, nat_eq, nat_lt, nat_le, List, [], ◌∷◌, length, Option, None, Some, MatchBool, refl, sym, ap, ◌∙◌, subst, arith, inl, inr}
+use Rattle.std.proofs.Common.{◌≡◌, ◌≢◌, ◌≤◌, ◌+◌, ◌&&◌, ℕ, ℤ, Bool, true, false, cond, nat_eq, nat_lt, nat_le, List, [], ◌∷◌, length, Option, None, Some, MatchBool, refl, sym, ap, ◌∙◌, subst, arith, inl, inr}
 use Rattle.std.proofs.lemmas.Bool.{true≢false}
 use Rattle.hrana_value.specs.declared.StreamNo.{StreamNo}
 use Rattle.stream_requests.specs.declared.asks.Ask.{Ask}
@@ -23,20 +23,20 @@ use Rattle.hrana_hub.specs.declared.limits.TheConstants.{MAX_SESSIONS}
 use Rattle.hrana_hub.specs.declared.sessions.Running.{Running as Runs}
 use Rattle.hrana_hub.specs.declared.sessions.Session.{Session}
 use Rattle.hrana_hub.specs.declared.sessions.Session.TheVariants.{Resting, Running}
-use Rattle.hrana_hub.specs.Maps.{Numbered, at, put, placed, without}
+use Rattle.hrana_hub.specs.Maps.{at, put, placed, without}
 use Rattle.hrana_hub.specs.State.{Conn, Stream, State}
 use Rattle.hrana_hub.specs.Arrivals.{Went, quiet, nothing, closing, on_answer}
 use Rattle.hrana_hub.specs.Askers.{asks_these}
-use Rattle.hrana_hub.specs.Batons.{is_answer, answers_on, exchanges_on, tells_no_token}
+use Rattle.hrana_hub.specs.Batons.{is_answer, answers_on, tells_no_token}
 use Rattle.hrana_hub.specs.Polled.{Polled, PollFell, answer, reply_in, is_over as closes, polled, passed, streams_left, dropped, with_entry, with_task}
-use Rattle.hrana_hub.specs.Ended.{let_go, without_conn, without_lost}
+use Rattle.hrana_hub.specs.Ended.{let_go, without_conn}
 use Rattle.hrana_hub.specs.Exchanges.{SessionPolled, SessionFell, fresh_session, with_session, in_session, sessions_in, works_of, starts_if, proceeds_if, concludes, with_reply, replies_to, opens_unless as session_opens, Does, GoesBy, GoesDrawn, GoesAsked, IsHeard}
 use Rattle.hrana_hub.specs.Moments.{at_moment, expiries}
 use Rattle.hrana_hub.specs.Step.{Step, ComesOf, Falls, Happens, Goes, ReadText, OpenText, Heard, PolledBy, PolledAt, ExchangeLost, LostAt, MomentAt, TextFell, PollFellOn, PollFellBy, PollFellAt, ExchangeFell, ExchangeGoes, is_short, counted, may_come, fits}
-use Rattle.hrana_hub.proofs.Changes.{MayOpen, opens_may, counted_may}
+use Rattle.hrana_hub.proofs.Changes.{opens_may, counted_may}
 use Rattle.hrana_hub.proofs.Kept.{counted_kept}
 use Rattle.hrana_hub.proofs.Listed.{let_go_cases, placed_cases}
-use Rattle.hrana_hub.proofs.MapLemmas.{none_some, at_placed}
+use Rattle.hrana_hub.proofs.MapLemmas.{at_placed}
 use Rattle.hrana_hub.proofs.Moving.{Waits, Fewer, FewerBut, IsNoAnswer, IsEven, Ends, comes, replies, lost, Moves, still, begins_on, goes_on, hands, leaves, stops, handed, Calm, fewer_same, fewer_put, but_put, fewer_without, but_without, fewer_left, but_then, answered}
 use Rattle.hrana_hub.proofs.Standing.{Kept}
 

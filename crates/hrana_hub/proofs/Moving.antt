@@ -1,9 +1,8 @@
 -- What a step does to the exchanges: which of them run, which batons streams wait for, how many were issued, and what is answered.
-use Rattle.std.proofs.Common.{◌≡◌, ◌≢◌, ◌≤◌, ◌+◌, ◌&&◌, ◌⊎◌, ℕ, ℤ, Bool, true, false, cond, nat_eq, nat_lt, nat_le, List, [], ◌∷◌, length, Option, None, Some, Result, Ok, Err, MatchBool, refl, sym, ap, ◌∙◌, subst, arith, inl, inr}
+use Rattle.std.proofs.Common.{◌≡◌, ◌≢◌, ◌≤◌, ◌+◌, ◌⊎◌, ℕ, ℤ, Bool, true, false, cond, nat_le, List, [], ◌∷◌, length, Option, None, Some, Result, Ok, Err, refl, sym, ap, ◌∙◌, inl, inr}
 use Rattle.hrana_value.specs.declared.failures.Decline.{Decline}
 use Rattle.stream_requests.specs.declared.asks.Ask.{Ask}
 use Rattle.stream_requests.specs.declared.asks.Ask.TheVariants as ask
-use Rattle.stream_requests.specs.declared.replies.Reply.{Reply}
 use Rattle.ws_messages.specs.declared.messages.ClientMsg.{ClientMsg}
 use Rattle.ws_messages.specs.declared.messages.ClientMsg.TheVariants.{Hello, Request}
 use Rattle.ws_messages.specs.declared.messages.MsgFail.{MsgFail}
@@ -11,41 +10,25 @@ use Rattle.ws_messages.specs.declared.messages.MsgFail.TheVariants as fail
 use Rattle.ws_messages.specs.declared.messages.WsRequest.{WsRequest}
 use Rattle.ws_messages.specs.declared.messages.WsRequest.TheVariants as request
 use Rattle.http_wire.specs.declared.asks.HttpAsk.{HttpAsk}
-use Rattle.http_wire.specs.declared.limits.TheConstants.{MAX_BODY_BYTES}
-use Rattle.http_wire.specs.declared.outs.HttpAnswer.{HttpAnswer}
 use Rattle.http_wire.specs.declared.outs.Outs.{Outs}
-use Rattle.pipeline_body.specs.Exchanges.{route_answer, begins, asked_in, is_over}
-use Rattle.pipeline_body.specs.declared.bodies.PipelineBody.{PipelineBody}
-use Rattle.pipeline_body.specs.declared.exchange.Asked.{Asked}
-use Rattle.pipeline_body.specs.declared.exchange.Asked.TheVariants.{Answered, Pipeline}
 use Rattle.baton_store.specs.Text.{text_of}
-use Rattle.engine_core.specs.Draws.{Draw, words, failed}
-use Rattle.engine_core.specs.declared.entries.Entry.{Entry}
 use Rattle.stream_task.specs.Checks.{stored_text}
-use Rattle.stream_task.specs.Polls.{is_waiting}
-use Rattle.stream_task.specs.Session.{is_shut}
 use Rattle.stream_task.specs.Texts.{is_full}
 use Rattle.hrana_hub.specs.declared.events.Event.{Event}
-use Rattle.hrana_hub.specs.declared.events.Event.TheVariants.{Opened, Text, Binary, Exchange, Lost, Moment, Poll, Stop}
-use Rattle.hrana_hub.specs.declared.limits.TheConstants.{MAX_STREAMS, MAX_SESSIONS}
+use Rattle.hrana_hub.specs.declared.events.Event.TheVariants.{Exchange, Lost, Stop}
+use Rattle.hrana_hub.specs.declared.limits.TheConstants.{MAX_STREAMS}
 use Rattle.hrana_hub.specs.declared.sessions.Running.{Running as Runs}
 use Rattle.hrana_hub.specs.declared.sessions.Session.{Session}
 use Rattle.hrana_hub.specs.declared.sessions.Session.TheVariants.{Resting, Running}
 use Rattle.hrana_hub.specs.Maps.{Numbered, at, put, placed, without, those_left, id_at}
 use Rattle.hrana_hub.specs.State.{Conn, Stream, State}
 use Rattle.hrana_hub.specs.Texts.{put_ask}
-use Rattle.hrana_hub.specs.Arrivals.{Went, quiet, nothing, accepts, on_hello, fresh, waiting, closing, opens, opens_unless, unopened, asks, asks_at, queues, stores, stores_unless, on_request, on_numbered, on_answer}
+use Rattle.hrana_hub.specs.Arrivals.{Went, quiet, accepts, on_hello, fresh, waiting, closing, opens, opens_unless, unopened, asks, asks_at, queues, stores, stores_unless, on_request, on_numbered, on_answer}
 use Rattle.hrana_hub.specs.Batons.{is_answer, answers_on, exchanges_on, tells_no_token}
-use Rattle.hrana_hub.specs.Polled.{Polled, PollFell, reply_in, is_over as closes, polled, streams_left, dropped, with_entry, with_task}
-use Rattle.hrana_hub.specs.Ended.{without_conn, without_lost, at_its_end}
-use Rattle.hrana_hub.specs.Exchanges.{SessionPolled, SessionFell, fresh_session, with_session, sessions_in, starts, starts_if, proceeds_if, concludes, with_reply, replies_to, gives_up, next_baton, opens_unless as session_opens, Does, GoesBy, GoesDrawn, GoesAsked, IsHeard}
-use Rattle.hrana_hub.specs.Moments.{after, at_moment, is_due, expired}
-use Rattle.hrana_hub.specs.Step.{Step, ComesOf, Falls, Happens, Goes, ReadText, OpenText, Heard, PolledBy, PolledAt, ExchangeLost, LostAt, MomentAt, TextFell, PollFellOn, PollFellBy, PollFellAt, ExchangeFell, ExchangeGoes, is_short, counted}
-use Rattle.hrana_hub.proofs.EntryLemmas.{at_without}
+use Rattle.hrana_hub.specs.Moments.{after}
 use Rattle.hrana_hub.proofs.Left.{left_cases, after_cases}
-use Rattle.hrana_hub.proofs.Listed.{put_cases, placed_cases, without_cases, let_go_cases}
+use Rattle.hrana_hub.proofs.Listed.{put_cases, placed_cases, without_cases}
 use Rattle.hrana_hub.proofs.MapLemmas.{none_some, some_one, Rises}
-use Rattle.hrana_hub.proofs.Standing.{Kept}
 
 -- ---- what streams of exchanges wait for
 

@@ -1,5 +1,5 @@
 -- In every run no more answers say that no words could be drawn than draws failed.
-use Rattle.std.proofs.Common.{◌≡◌, ◌≤◌, ◌+◌, ◌&&◌, ℕ, Bool, true, false, cond, nat_eq, nat_le, List, [], ◌∷◌, ◌++◌, Option, None, Some, refl, sym, ap, ◌∙◌, subst, arith, inl, inr, eq-eqb}
+use Rattle.std.proofs.Common.{◌≡◌, ◌≤◌, ◌+◌, ◌&&◌, ℕ, Bool, true, false, cond, nat_le, List, [], ◌∷◌, ◌++◌, Option, None, Some, refl, sym, ap, ◌∙◌, subst, arith, inl, inr, eq-eqb}
 use Rattle.std.specs.Prelude.{bytes_eq, codes}
 use Rattle.std.proofs.lemmas.Slice.Eq.{bytes_eq-Decides}
 use Rattle.serde_json.specs.Data.{Data, object, member, string}
@@ -31,7 +31,7 @@ use Rattle.hrana_hub.specs.declared.events.Event.TheVariants.{Opened, Text, Bina
 use Rattle.hrana_hub.specs.declared.limits.TheConstants.{MAX_SESSIONS}
 use Rattle.hrana_hub.specs.declared.sessions.Running.{Running as Runs}
 use Rattle.hrana_hub.specs.Arrivals.{accepts}
-use Rattle.hrana_hub.specs.Batons.{NoTokensByFailures, is_answer, answers_on, exchanges_on, tells_no_token, no_tokens, all_failures}
+use Rattle.hrana_hub.specs.Batons.{NoTokensByFailures, is_answer, exchanges_on, tells_no_token, no_tokens, all_failures}
 use Rattle.hrana_hub.specs.Drawn.{failures}
 use Rattle.hrana_hub.specs.Exchanges.{starts_if, opens_unless, sessions_in, fresh_session, with_session, Does, GoesBy, GoesDrawn, GoesAsked, IsHeard}
 use Rattle.hrana_hub.specs.Run.{Run, start, more}

@@ -1,5 +1,5 @@
 -- A poll of a stream whose exchange runs, in the talk of the stream.
-use Rattle.std.proofs.Common.{◌≡◌, ◌≢◌, ◌≤◌, ◌+◌, ℕ, ℤ, Bool, true, false, List, [], ◌∷◌, ◌++◌, length, map, All, Option, None, Some, option_to_list, refl, sym, ap, ◌∙◌, subst, arith, append-nil}
+use Rattle.std.proofs.Common.{◌≡◌, ◌≢◌, ◌≤◌, ◌+◌, ℕ, ℤ, Bool, true, false, List, [], ◌∷◌, ◌++◌, length, map, All, Option, None, Some, refl, sym, ap, ◌∙◌, subst, arith, append-nil}
 use Rattle.std.specs.Prelude.{pos}
 use Rattle.hrana_value.specs.declared.StreamNo.{StreamNo}
 use Rattle.stream_requests.specs.declared.replies.Reply.{Reply}
@@ -25,12 +25,12 @@ use Rattle.hrana_hub.specs.Arrivals.{nothing}
 use Rattle.hrana_hub.specs.Polled.{reply_in, seen_of, still_wait, with_entry, with_task, passed, dropped}
 use Rattle.hrana_hub.specs.Exchanges.{SessionPolled, SessionFell, in_session, answers_with, next_baton, proceeds_if, concludes, with_reply, replies_to}
 use Rattle.hrana_hub.specs.Stories.{BeganAt}
-use Rattle.hrana_hub.specs.Talks.{Talk, then, answers_in, HasTold}
+use Rattle.hrana_hub.specs.Talks.{Talk, then, answers_in}
 use Rattle.hrana_hub.proofs.EntryLemmas.{at_put, at_without}
 use Rattle.hrana_hub.proofs.Moving.{handed}
 use Rattle.hrana_hub.proofs.Paired.{still_paired}
 use Rattle.hrana_hub.proofs.Standing.{Kept}
-use Rattle.hrana_hub.proofs.Talking.{Rests, Under, Owns, tells_front, rests_front, rests_tells, under_tells, runs_under, answered_rests, fell_front, after_more}
+use Rattle.hrana_hub.proofs.Talking.{Rests, Under, Owns, tells_front, rests_front, under_tells, runs_under, answered_rests, fell_front, after_more}
 use Rattle.hrana_hub.proofs.TalkSteps.{Follows, Goes', polling, becomes, vanishes}
 use Rattle.hrana_hub.proofs.Telling.{versioned}
 

@@ -1,5 +1,5 @@
 -- In every run the exchanges of each stream are answered in their order.
-use Rattle.std.proofs.Common.{◌≡◌, ◌≢◌, ◌≤◌, ◌<◌, ◌+◌, ◌⊎◌, ℕ, ℤ, Bool, true, false, nat_le, List, [], ◌∷◌, ◌++◌, length, All, Option, None, Some, option_to_list, MatchBool, refl, sym, ap, ◌∙◌, subst, arith, inl, inr}
+use Rattle.std.proofs.Common.{◌≡◌, ◌≢◌, ◌≤◌, ◌+◌, ℕ, ℤ, Bool, true, false, nat_le, List, [], ◌∷◌, length, All, Option, None, Some, MatchBool, refl, sym, ap, ◌∙◌, subst, arith, inl, inr}
 use Rattle.std.proofs.lemmas.Bool.{cases_eq, cases_order}
 use Rattle.std.proofs.lemmas.List.Elements.{All-head, All-tail}
 use Rattle.hrana_value.specs.declared.StreamNo.{StreamNo}
@@ -11,7 +11,7 @@ use Rattle.http_wire.specs.declared.asks.HttpAsk.{HttpAsk}
 use Rattle.http_wire.specs.declared.outs.HttpAnswer.{HttpAnswer}
 use Rattle.http_wire.specs.declared.outs.Outs.{Outs}
 use Rattle.pipeline_body.specs.Bodies.{IsBody}
-use Rattle.pipeline_body.specs.Exchanges.{EachHasItsResult, AsksOfBodiesFit, IsAsked, route_answer, begins, asked_in, is_over, pipeline_answer}
+use Rattle.pipeline_body.specs.Exchanges.{EachHasItsResult, AsksOfBodiesFit, IsAsked, route_answer, begins, asked_in, is_over}
 use Rattle.pipeline_body.specs.declared.bodies.PipelineBody.{PipelineBody}
 use Rattle.pipeline_body.specs.declared.exchange.Asked.{Asked}
 use Rattle.pipeline_body.specs.declared.exchange.Asked.TheVariants.{Answered, Pipeline}
@@ -25,16 +25,16 @@ use Rattle.hrana_hub.specs.declared.limits.TheConstants.{MAX_SESSIONS}
 use Rattle.hrana_hub.specs.declared.sessions.Running.{Running as Runs}
 use Rattle.hrana_hub.specs.declared.sessions.Session.{Session}
 use Rattle.hrana_hub.specs.declared.sessions.Session.TheVariants.{Resting, Running}
-use Rattle.hrana_hub.specs.Maps.{at, put, placed}
+use Rattle.hrana_hub.specs.Maps.{at, put}
 use Rattle.hrana_hub.specs.State.{Conn, Stream, State}
 use Rattle.hrana_hub.specs.Arrivals.{accepts, nothing}
 use Rattle.hrana_hub.specs.Askers.{asks_these}
 use Rattle.hrana_hub.specs.Polled.{Polled, PollFell, answer, reply_in, is_over as closes, polled, passed, streams_left, dropped}
-use Rattle.hrana_hub.specs.Exchanges.{Awaits, SessionPolled, SessionFell, answers_with, fresh_session, with_session, in_session, next_baton, sessions_in, works_of, starts_if, opens_unless, Does, GoesBy, GoesDrawn, GoesAsked, IsHeard}
-use Rattle.hrana_hub.specs.Run.{Run, RunFrom, start, more}
-use Rattle.hrana_hub.specs.Step.{Step, ComesOf, Falls, Happens, Goes, Heard, PolledBy, PolledAt, PollFellOn, PollFellBy, PollFellAt, LostAt, ExchangeFell, ExchangeGoes, is_short, counted}
-use Rattle.hrana_hub.specs.Stories.{BeganAt, AreVersions, new_session}
-use Rattle.hrana_hub.specs.Talks.{Accepted, Talk, no_talk, then, Accepts, IsBy, answers_in, PassesBy, Says, polls, takes, passes, IsTalk, GoesOn, Tells, HasTold, InOrder, HasTalk, AnswersInOrder}
+use Rattle.hrana_hub.specs.Exchanges.{Awaits, fresh_session, with_session, in_session, next_baton, sessions_in, works_of, starts_if, opens_unless, Does, GoesBy, GoesDrawn, GoesAsked, IsHeard}
+use Rattle.hrana_hub.specs.Run.{Run, start, more}
+use Rattle.hrana_hub.specs.Step.{ComesOf, Falls, Happens, Goes, Heard, PolledBy, PolledAt, PollFellOn, PollFellBy, PollFellAt, LostAt, ExchangeFell, ExchangeGoes, is_short, counted}
+use Rattle.hrana_hub.specs.Stories.{BeganAt, AreVersions}
+use Rattle.hrana_hub.specs.Talks.{Talk, no_talk, then, Accepts, IsBy, answers_in, PassesBy, Says, polls, takes, passes, IsTalk, HasTold, AnswersInOrder}
 use Rattle.hrana_hub.proofs.Changes.{Change, step_changes}
 use Rattle.hrana_hub.proofs.Counted.{Counts, counted_counts, run_counts}
 use Rattle.hrana_hub.proofs.EntryLemmas.{at_put, at_put_other, at_without}
@@ -43,9 +43,9 @@ use Rattle.hrana_hub.proofs.MapLemmas.{none_some, some_one, at_placed, at_placed
 use Rattle.hrana_hub.proofs.MoveSteps.{either}
 use Rattle.hrana_hub.proofs.Moving.{handed}
 use Rattle.hrana_hub.proofs.Standing.{Kept}
-use Rattle.hrana_hub.proofs.Talking.{Rests, Under, Owns, owns_tells, rests_front, under_tells, tells_front, none_front, begins_under, begins_rests, fresh_rests}
+use Rattle.hrana_hub.proofs.Talking.{Rests, Owns, owns_tells, rests_front, under_tells, tells_front, none_front, begins_under, begins_rests, fresh_rests}
 use Rattle.hrana_hub.proofs.TalkPolls.{session_goes, no_memory}
-use Rattle.hrana_hub.proofs.TalkSteps.{Follows, Goes', Lets, lets_same, passing, polling, quiet_poll, free_poll, becomes, aside_goes, lost_goes, poll_passes}
+use Rattle.hrana_hub.proofs.TalkSteps.{Follows, Goes', lets_same, passing, quiet_poll, free_poll, aside_goes, lost_goes, poll_passes}
 
 -- ---- what a body asks is work for a stream
 
@@ -305,7 +305,7 @@ module _ (law : TaskMeans) (each : EachHasItsResult) (fit : AsksOfBodiesFit) (cl
   run_talks {token} {shared} (more {s = before} run event draws added out new fits_now step) had versions n =
       let was = run_talks run had versions.0 n in
       let goes = event_goes law each fit token shared had n was.talk (counted before) (counted_follows shared had n was.talk before was.follows) draws added out new (counted_kept before (run_kept run)) (counted_counts before (run_counts closes_alone run)) versions.1 event
-          (step_changes token shared before event draws added out new fits_now step) step in
+      (step_changes token shared before event draws added out new fits_now step) step in
       record { talk = then was.talk goes.now; is_talk = (was.talk, goes.now, was.is_talk, counted_says token n draws added out before new goes.says, refl); follows = goes.follows }
 
   pub answers_in_order : AnswersInOrder

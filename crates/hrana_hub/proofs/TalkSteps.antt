@@ -1,63 +1,29 @@
 -- What one event says of the stream of a number, and how its talk goes on.
-use Rattle.std.proofs.Common.{◌≡◌, ◌≢◌, ◌≤◌, ◌<◌, ◌+◌, ◌⊎◌, ℕ, ℤ, Bool, true, false, nat_le, List, [], ◌∷◌, ◌++◌, length, length-append, map, All, Option, None, Some, is_some, option_to_list, MatchBool, refl, sym, ap, ◌∙◌, subst, arith, inl, inr, append-nil}
-use Rattle.std.specs.Prelude.{pos}
-use Rattle.std.proofs.lemmas.Bool.{cases_eq}
+use Rattle.std.proofs.Common.{◌≡◌, ◌≢◌, ◌≤◌, ◌<◌, ◌+◌, ◌⊎◌, ℕ, Bool, true, false, List, [], Option, None, Some, is_some, refl, sym, ap, ◌∙◌, subst, arith, inl, inr, append-nil}
 use Rattle.hrana_value.specs.declared.StreamNo.{StreamNo}
-use Rattle.stream_requests.specs.Asks.{ask_kind, AskFits}
-use Rattle.stream_requests.specs.Results.{IsPipelineKind}
-use Rattle.stream_requests.specs.declared.asks.Ask.{Ask}
-use Rattle.stream_requests.specs.declared.asks.Ask.TheVariants as ask
-use Rattle.stream_requests.specs.declared.replies.Reply.{Reply}
-use Rattle.http_wire.specs.declared.asks.HttpAsk.{HttpAsk}
-use Rattle.http_wire.specs.declared.outs.HttpAnswer.{HttpAnswer}
 use Rattle.http_wire.specs.declared.outs.Outs.{Outs}
-use Rattle.pipeline_body.specs.Bodies.{IsBody}
-use Rattle.pipeline_body.specs.Exchanges.{EachHasItsResult, AsksOfBodiesFit, Progress, IsAsked, route_answer, after, answered, begins, asked_in, is_over, pipeline_answer}
-use Rattle.pipeline_body.specs.declared.bodies.PipelineBody.{PipelineBody}
-use Rattle.pipeline_body.specs.declared.exchange.Asked.{Asked}
-use Rattle.pipeline_body.specs.declared.exchange.Asked.TheVariants.{Answered, Pipeline}
-use Rattle.engine_core.specs.Draws.{Draw, words, failed}
+use Rattle.engine_core.specs.Draws.{Draw}
 use Rattle.engine_core.specs.declared.entries.Entry.{Entry}
-use Rattle.stream_task.specs.Doing.{work_of}
-use Rattle.stream_task.specs.Laws.{TaskMeans, replies, said_by}
-use Rattle.stream_task.specs.Polls.{Task, Polls, is_waiting}
-use Rattle.stream_task.specs.Session.{is_shut}
-use Rattle.stream_task.specs.Table.{Seen as Sees, IsVersioned}
-use Rattle.stream_task.specs.declared.task.Poll.{Poll as Answer}
-use Rattle.stream_task.specs.declared.task.Poll.TheVariants.{Ready, Pending}
-use Rattle.stream_task.specs.declared.task.Stepped.{Stepped}
-use Rattle.stream_task.specs.declared.task.Stepped.TheVariants as stepped
-use Rattle.stream_task.specs.declared.work.Work.{Work}
 use Rattle.hrana_hub.specs.declared.events.Event.{Event}
-use Rattle.hrana_hub.specs.declared.events.Event.TheVariants.{Opened, Text, Binary, Exchange, Lost, Moment, Poll, Stop}
-use Rattle.hrana_hub.specs.declared.limits.TheConstants.{MAX_SESSIONS}
-use Rattle.hrana_hub.specs.declared.sessions.Running.{Running as Runs}
+use Rattle.hrana_hub.specs.declared.events.Event.TheVariants.{Exchange, Lost, Poll}
 use Rattle.hrana_hub.specs.declared.sessions.Session.{Session}
-use Rattle.hrana_hub.specs.declared.sessions.Session.TheVariants.{Resting, Running}
-use Rattle.hrana_hub.specs.Maps.{at, put, placed, without}
-use Rattle.hrana_hub.specs.State.{Conn, Stream, State, of_exchanges}
-use Rattle.hrana_hub.specs.Arrivals.{accepts, nothing, fresh, waiting}
-use Rattle.hrana_hub.specs.Askers.{asks_these}
-use Rattle.hrana_hub.specs.Polled.{Polled, PollFell, answer, reply_in, is_over as closes, polled, seen_of, streams_left, dropped, still_wait, with_entry, with_task}
-use Rattle.hrana_hub.specs.Ended.{without_conn, without_lost, at_its_end}
-use Rattle.hrana_hub.specs.Exchanges.{Awaits, SessionPolled, SessionFell, fresh_session, with_session, in_session, sessions_in, works_of, starts_if, proceeds_if, concludes, with_reply, replies_to, opens_unless, Does, GoesBy, GoesDrawn, GoesAsked, IsHeard}
-use Rattle.hrana_hub.specs.Moments.{is_due, expired, after as left_by, at_moment}
-use Rattle.hrana_hub.specs.Step.{Step, Falls, Happens, Goes, PolledBy, PolledAt, Heard, ExchangeLost, LostAt, PollFellOn, PollFellBy, PollFellAt, ExchangeFell, ExchangeGoes, is_short, counted}
-use Rattle.hrana_hub.specs.Stories.{BeganAt, new_session}
-use Rattle.hrana_hub.specs.Talks.{Accepted, Talk, no_talk, then, Accepts, IsBy, answers_in, PassesBy, Says, polls, takes, passes, HasTold}
-use Rattle.hrana_hub.proofs.Changes.{Change, rests, comes, marks, joins, asks_for, polls as polls_own, falls as falls_own, touches, loses, expires, ends, IsOpen}
+use Rattle.hrana_hub.specs.Maps.{at}
+use Rattle.hrana_hub.specs.State.{Conn, Stream, State}
+use Rattle.hrana_hub.specs.Arrivals.{nothing, fresh, waiting}
+use Rattle.hrana_hub.specs.Polled.{reply_in, is_over as closes, polled, streams_left, dropped}
+use Rattle.hrana_hub.specs.Moments.{after as left_by}
+use Rattle.hrana_hub.specs.Step.{ExchangeLost, LostAt}
+use Rattle.hrana_hub.specs.Talks.{Talk, no_talk, then, answers_in, PassesBy, Says, polls, passes, HasTold}
+use Rattle.hrana_hub.proofs.Changes.{Change, rests, comes, marks, joins, asks_for, polls as polls_own, falls as falls_own, touches, loses, expires, ends}
 use Rattle.hrana_hub.proofs.Counted.{Counts}
-use Rattle.hrana_hub.proofs.EntryLemmas.{at_put, at_put_other, at_without, at_without_other}
+use Rattle.hrana_hub.proofs.EntryLemmas.{at_put_other, at_without_other}
 use Rattle.hrana_hub.proofs.IdLists.{lead_at}
 use Rattle.hrana_hub.proofs.Left.{left_cases, after_cases}
 use Rattle.hrana_hub.proofs.Listed.{put_cases, placed_cases, without_cases, let_go_cases}
-use Rattle.hrana_hub.proofs.MapLemmas.{none_some, some_one, at_placed, at_placed_other}
-use Rattle.hrana_hub.proofs.MoveSteps.{either}
-use Rattle.hrana_hub.proofs.Paired.{still_paired}
+use Rattle.hrana_hub.proofs.MapLemmas.{none_some, some_one}
 use Rattle.hrana_hub.proofs.Standing.{Kept}
-use Rattle.hrana_hub.proofs.Talking.{Rests, Under, Owns, owns_tells, rests_tells, under_tells, tells_front, none_front, begins_under, begins_rests, runs_under, answered_rests, fell_front, fresh_rests, then_none, after_more}
-use Rattle.hrana_hub.proofs.Telling.{versioned}
-use Rattle.hrana_hub.proofs.Touching.{Adding, arrives, polled as polls_session, lost, Touches}
+use Rattle.hrana_hub.proofs.Talking.{Owns, none_front, then_none}
+use Rattle.hrana_hub.proofs.Touching.{arrives, polled as polls_session, lost}
 
 -- ---- what stands at a number
 
@@ -125,27 +91,32 @@ module _ (token : Option (List ℕ)) (shared : Bool) (had : ℕ → ℕ) (n : �
   change_lets kept counts aside (rests event none silent left) = (omega (arith, ap (λ (u : State). u.opened) left), lets_same n s new (ap (λ (u : State). at n u.streams) left))
   change_lets kept counts aside (comes c closing none unknown few left) = (omega (arith, ap (λ (u : State). u.opened) left), lets_same n s new (ap (λ (u : State). at n u.streams) left))
   change_lets kept counts aside (marks event c k k' none silent o marked left) = (omega (arith, ap (λ (u : State). u.opened) left), lets_same n s new (ap (λ (u : State). at n u.streams) left))
-  change_lets kept counts aside (joins c text k id none o unnamed few left) = (omega (arith, ap (λ (u : State). u.opened) left),
-      λ y e. elim (placed_cases (s.opened + 1) n (fresh s.now c (s.opened + 1)) y s.streams (ap (λ (u : State). at n u.streams) (sym left) ∙ e)) [
-        | inl own ↦ inr (ap (λ (z : Stream). z.session) own.1, inl (omega (arith, own.0)))
-        | inr other ↦ inl other.1
-      ])
+  change_lets kept counts aside (joins c text k id none o unnamed few left) = (
+    omega (arith, ap (λ (u : State). u.opened) left),
+    λ y e. elim (placed_cases (s.opened + 1) n (fresh s.now c (s.opened + 1)) y s.streams (ap (λ (u : State). at n u.streams) (sym left) ∙ e)) [
+      | inl own ↦ inr (ap (λ (z : Stream). z.session) own.1, inl (omega (arith, own.0)))
+      | inr other ↦ inl other.1
+    ],
+  )
   change_lets kept counts aside (asks_for c text k stream m x id what w none o few named known served left) =
-      (let free = no_session x.session ((lead_at _ stream m k.ids (counts.conn c k o.known).leads named).named x known).own in
-      (omega (arith, ap (λ (u : State). u.opened) left),
-      λ y e. elim (put_cases m n x (waiting id what x) y s.streams known (ap (λ (u : State). at n u.streams) (sym left) ∙ e)) [
-        | inl own ↦ inr (ap (λ (z : Stream). z.session) own.1 ∙ free, inr (x, ap (λ j. at j s.streams) own.0 ∙ known, free))
-        | inr other ↦ inl other.1
-      ]))
+      (let free = no_session x.session ((lead_at _ stream m k.ids (counts.conn c k o.known).leads named).named x known).own in (
+        omega (arith, ap (λ (u : State). u.opened) left),
+        λ y e. elim (put_cases m n x (waiting id what x) y s.streams known (ap (λ (u : State). at n u.streams) (sym left) ∙ e)) [
+          | inl own ↦ inr (ap (λ (z : Stream). z.session) own.1 ∙ free, inr (x, ap (λ j. at j s.streams) own.0 ∙ known, free))
+          | inr other ↦ inl other.1
+        ],
+      ))
   change_lets kept counts aside (polls_own stream x k known own waits o p) = absurd aside
   change_lets kept counts aside (falls_own stream x k known own o p) = absurd aside
   change_lets kept counts aside (touches e m (arrives c ask none next) silent opened touch) = absurd aside
   change_lets kept counts aside (touches e m (polls_session stream x by entry result task here known p one next) silent opened touch) = absurd aside
   change_lets kept counts aside (touches e m (lost c ended next) silent opened touch) = absurd aside
   change_lets kept counts aside (loses c k known ended left) = absurd aside
-  change_lets kept counts aside (expires moment ended left) = (omega (arith, ap (λ (u : State). u.opened) left),
-      λ y e. (let was = left_cases (left_by moment) n y s.streams kept.streams_rise (ap (λ (u : State). at n u.streams) (sym left) ∙ e) in
-      elim (expired_lets moment was.0 y was.1 was.2) [ inl same ↦ inl (was.1 ∙ ap Some same) | inr none ↦ inr none ]))
+  change_lets kept counts aside (expires moment ended left) = (
+    omega (arith, ap (λ (u : State). u.opened) left),
+    λ y e. (let was = left_cases (left_by moment) n y s.streams kept.streams_rise (ap (λ (u : State). at n u.streams) (sym left) ∙ e) in
+        elim (expired_lets moment was.0 y was.1 was.2) [ inl same ↦ inl (was.1 ∙ ap Some same) | inr none ↦ inr none ]),
+  )
   change_lets kept counts aside (ends ended left) = (omega (arith, ap (λ (u : State). u.opened) left), λ y e. absurd (none_some (ap (λ (u : State). at n u.streams) (sym left) ∙ e)))
 
   -- ---- losses

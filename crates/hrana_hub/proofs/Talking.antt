@@ -1,16 +1,12 @@
 -- The talk of a stream of exchanges goes on: where it opens, over each exchange that is accepted, over each poll.
-use Rattle.std.proofs.Common.{◌≡◌, ◌≢◌, ◌≤◌, ◌+◌, ℕ, ℤ, Bool, true, false, nat_eq, List, [], ◌∷◌, ◌++◌, map, length, length-append, All, Option, None, Some, option_to_list, refl, sym, ap, ◌∙◌, subst, arith, append-nil, append_assoc}
-use Rattle.std.specs.Prelude.{pos}
+use Rattle.std.proofs.Common.{◌≡◌, ◌≤◌, ◌+◌, ℕ, Bool, true, List, [], ◌∷◌, ◌++◌, length, length-append, Option, None, Some, refl, sym, ap, ◌∙◌, subst, arith, append-nil, append_assoc}
 use Rattle.std.proofs.lemmas.Bool.{eqb-true}
 use Rattle.stream_requests.specs.declared.asks.Ask.{Ask}
 use Rattle.stream_requests.specs.declared.replies.Reply.{Reply}
-use Rattle.stream_requests.specs.Asks.{ask_kind, AskFits}
-use Rattle.stream_requests.specs.Results.{IsPipelineKind}
 use Rattle.http_wire.specs.declared.outs.Outs.{Outs}
 use Rattle.pipeline_body.specs.declared.bodies.PipeAsk.{PipeAsk}
 use Rattle.pipeline_body.specs.Exchanges.{Progress, EachHasItsResult, after, answered, begins, asked_in, is_over, results_of, pipeline_answer}
 use Rattle.engine_core.specs.declared.entries.Entry.{Entry}
-use Rattle.stream_task.specs.Doing.{Session as Sees, work_of}
 use Rattle.stream_task.specs.Laws.{replies}
 use Rattle.stream_task.specs.declared.work.Work.{Work}
 use Rattle.hrana_hub.specs.declared.sessions.Issued.{Issued}
@@ -185,8 +181,8 @@ module _ (shared : Bool) (had : ℕ → ℕ) where
       let a : Accepted = record { conn = c; asks = asks; close = close } in
       let empty : length (asked_in asks) ≡ 0 = sym (eqb-true 0 (length (asked_in asks)) (sym each.1 ∙ ap is_over (sym is) ∙ over)) in
       let told_out : out ≡ answers_with c (pipeline_answer (results_of asks []) baton close) =
-          given ∙ ap (λ k. answers_with k (pipeline_answer e.exchange.results baton e.close)) conn ∙ ap (λ b. answers_with c (pipeline_answer e.exchange.results baton b)) shuts ∙ ap (λ (p : Progress). answers_with c (pipeline_answer p.results baton close)) is
-          ∙ ap (λ l. answers_with c (pipeline_answer l baton close)) each.0 in
+      given ∙ ap (λ k. answers_with k (pipeline_answer e.exchange.results baton e.close)) conn ∙ ap (λ b. answers_with c (pipeline_answer e.exchange.results baton b)) shuts ∙ ap (λ (p : Progress). answers_with c (pipeline_answer p.results baton close)) is
+      ∙ ap (λ l. answers_with c (pipeline_answer l baton close)) each.0 in
       record {
         told = h.told ++ [];
         whole = subst (λ o. Whole (t.accepted ++ a ∷ []) (h.told ++ []) (t.answers ++ o ∷ [])) (sym told_out) (one_more t.accepted h.told t.answers a [] baton h.whole (sym empty));

@@ -1,5 +1,5 @@
 -- The lines of a script and the events that they stand for.
-use Rattle.std.specs.Prelude.{◌≡◌, ◌≢◌, ◌<◌, ◌^◌, ◌⊎◌, List, ℕ, [], ◌∷◌, ◌++◌, All, Option, None, Some, true, false, bytes_eq, cond, codes, decimal, IsUtf8}
+use Rattle.std.specs.Prelude.{◌≡◌, ◌≢◌, ◌<◌, ◌^◌, List, ℕ, [], ◌∷◌, ◌++◌, All, Option, None, Some, true, false, bytes_eq, cond, codes, decimal, IsUtf8}
 use Rattle.http_wire.specs.declared.asks.HttpAsk.{HttpAsk}
 use Rattle.http_wire.specs.declared.asks.Method.{Method}
 use Rattle.http_wire.specs.declared.asks.Method.TheVariants as method
@@ -23,20 +23,32 @@ method_of word = cond (bytes_eq word (codes "GET")) method.Get (cond (bytes_eq w
 abbrev pub bearer_of : List ℕ → Option (List ℕ)
 bearer_of word = cond (bytes_eq word (codes "-")) None (Some word)
 
--- the body after a space, or nothing where it is missing
-abbrev pub IsBodyPart : List ℕ → List ℕ → Type 0
-IsBodyPart part body = ((part ≡ []) × (body ≡ [])) ⊎ (part ≡ 32 ∷ body)
+-- what follows a word: a space and more, or nothing
+abbrev pub behind : Option (List ℕ) → List ℕ
+behind None = []
+behind (Some rest) = 32 ∷ rest
 
--- the method, the path and the token, and then the body
-pub record IsExchange (line : List ℕ) (conn : ℕ) (ask : HttpAsk) : Type 0 where
+-- a body that is missing is empty
+abbrev pub body_of : Option (List ℕ) → List ℕ
+body_of None = []
+body_of (Some body) = body
+
+-- the method, the path and the token, each a word, and then the rest
+pub record AreWords (text method_word path token_word : List ℕ) (rest : Option (List ℕ)) : Type 0 where
+  pub written : text ≡ method_word ++ 32 ∷ (path ++ 32 ∷ (token_word ++ behind rest))
+  pub method_is : IsWord method_word
+  pub path_is : IsWord path
+  pub token_is : IsWord token_word
+
+-- the text of a request; what follows its words is its body
+pub record IsAskText (text : List ℕ) (ask : HttpAsk) : Type 0 where
   pub method_word : List ℕ
   pub token_word : List ℕ
-  pub part : List ℕ
-  pub written : line ≡ codes "? " ++ (decimal conn ++ 32 ∷ (method_word ++ 32 ∷ (ask.path ++ 32 ∷ (token_word ++ part))))
-  pub words : IsWord method_word × IsWord ask.path × IsWord token_word
+  pub rest : Option (List ℕ)
+  pub words : AreWords text method_word ask.path token_word rest
   pub method : ask.method ≡ method_of method_word
   pub bearer : ask.bearer ≡ bearer_of token_word
-  pub body : IsBodyPart part ask.body
+  pub body : ask.body ≡ body_of rest
   pub stays : ask.close ≡ false
 
 -- ---- a line
@@ -46,7 +58,7 @@ abbrev pub IsWritten : List ℕ → Event → Type 0
 IsWritten line (Opened conn) = line ≡ codes "+ " ++ decimal conn
 IsWritten line (Text conn text) = line ≡ codes "> " ++ (decimal conn ++ 32 ∷ text)
 IsWritten line (Binary conn) = line ≡ codes "# " ++ decimal conn
-IsWritten line (Exchange conn ask) = IsExchange line conn ask
+IsWritten line (Exchange conn ask) = (text : List ℕ) × (line ≡ codes "? " ++ (decimal conn ++ 32 ∷ text)) × IsAskText text ask
 IsWritten line (Lost conn) = line ≡ codes "- " ++ decimal conn
 IsWritten line (Moment moment) = line ≡ codes "@ " ++ decimal moment
 IsWritten line (Poll stream) = line ≡ codes "! " ++ decimal stream.0

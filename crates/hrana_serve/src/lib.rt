@@ -1,6 +1,7 @@
 //! The top call: a script is played over the hub, and what its events add is noted by a journal.
 #![tactic(auto)]
 
+mod asks;
 mod lines;
 mod notes;
 mod prints;

@@ -33,8 +33,8 @@ pub use leads::{
     streams_stand_at_first, version_alone_stands,
 };
 pub use limits::{MAX_STORED_BYTES, MAX_STORED_TEXTS, limits_are};
-pub use session::{Cause, TxnState};
 pub use queued::Queued;
+pub use session::{Cause, TxnState};
 pub use task::{Poll, Stepped, StreamTask, Task};
 pub use texts::{StoredText, StoredTexts, stored_text};
 pub use together::{
