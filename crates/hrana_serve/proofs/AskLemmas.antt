@@ -1,6 +1,7 @@
 -- The words of a request's text are those of no other request.
 use Rattle.std.proofs.Common.{◌≡◌, ◌≢◌, ℕ, List, [], ◌∷◌, ◌++◌, All, Option, None, Some, refl, sym, ap, ◌∙◌, subst}
-use Rattle.std.specs.Prelude.{IsUtf8}
+use Rattle.std.specs.Borrow.{Bor}
+use Rattle.std.specs.Prelude.{IsUtf8, option_map}
 use Rattle.std.proofs.lemmas.List.Elements.{All-head, All-tail}
 use Rattle.http_wire.specs.declared.asks.HttpAsk.{HttpAsk}
 use Rattle.hrana_serve.specs.Script.{AreWords, IsAskText, IsWord, behind, body_of, bearer_of, method_of}
@@ -94,3 +95,7 @@ not_a_word w m none same is = none (λ e. is.filled (sym same ∙ e)) (subst IsU
 
 pub are_words : (text m after p last t : List ℕ) (rest : Option (List ℕ)) → text ≡ m ++ behind (Some after) → after ≡ p ++ behind (Some last) → last ≡ t ++ behind rest → IsWord m → IsWord p → IsWord t → AreWords text m p t rest
 are_words text m after p last t rest a b c x y z = record { written = a ∙ ap (λ l. m ++ 32 ∷ l) (b ∙ ap (λ l. p ++ 32 ∷ l) c); method_is = x; path_is = y; token_is = z }
+
+-- what stands behind the word is known
+pub after_word : (text w : List ℕ) (o p : Option (Bor (List ℕ))) → text ≡ w ++ behind (option_map (λ r. r.now) o) → o ≡ p → text ≡ w ++ behind (option_map (λ r. r.now) p)
+after_word text w o p e is = e ∙ ap (λ x. w ++ behind (option_map (λ r. r.now) x)) is

@@ -3,7 +3,7 @@ use Rattle.std.proofs.Common.{◌≡◌, ◌≤◌, ◌+◌, ◌^◌, ℕ, List,
 use Rattle.engine_core.specs.Causes.{RoseBy}
 use Rattle.engine_core.specs.Draws.{Draw}
 use Rattle.hrana_hub.specs.Batons.{all_failures}
-use Rattle.hrana_hub.specs.Drawn.{DrawsFrom, failures, failure_of}
+use Rattle.hrana_hub.specs.Drawn.{DrawsFrom, failures}
 use Rattle.hrana_serve.specs.Replay.{join}
 
 failures-append : (c d : List Draw) → failures (c ++ d) ≡ failures c + failures d

@@ -162,7 +162,7 @@ early_writes end held h = absurd h
 pub early_replayed : (token : Option (List ℕ)) (shared : Bool) (all : List (List ℕ)) (end : Status) (held : Option (List ℕ)) → IsEarly end → Replayed token shared all end 0 [] held held [] []
 early_replayed token shared all end held early = record {
   story = record { lines = []; events = []; drawn = []; entries = []; outs = []; state = first_state; ended = []; last = at_its_end (counted first_state) };
-  is_story = record { front = record { rest = all; whole = refl }; reads = refl; counted = refl; run = start; fitted = refl; stop = (refl, refl, refl, refl); drew = refl; joined = refl };
+  is_story = record { front = record { rest = all; whole = refl }; reads = refl; counted = refl; run = start; fitted = refl; stop = (refl, (refl, refl, refl)); drew = refl; joined = refl };
   stops = early_stops end all early;
   writes = early_writes end held early;
   answers = record { answered = []; others = []; told = []; untold = []; all = refl; given = refl; paired = refl; writes = whole_front held held [] (Appends-nil held); noted = []; wait = refl };

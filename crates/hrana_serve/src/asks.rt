@@ -25,13 +25,7 @@ fn word_of(bytes: &[u8]) -> Option<&str>
     ensures { MatchOption result ((bytes.now ≢ []) → IsUtf8 bytes.now → ⊥) (λ word. (word.now ≡ bytes.now) × (bytes.now ≢ []) × IsUtf8 bytes.now) }
 {
     match std::str::from_utf8(bytes) {
-        Ok(word) => {
-            if word.is_empty() {
-                None
-            } else {
-                Some(word)
-            }
-        }
+        Ok(word) => { if word.is_empty() { None } else { Some(word) } }
         Err(_) => None,
     }
 }
@@ -67,6 +61,7 @@ fn body_of(alloc: Global, rest: Option<&[u8]>) -> Result<Bytes, NoMemory>
 }
 
 /// The words of a request, and the body behind them.
+#[derive(Drop)]
 struct Words<'a> {
     method: &'a str,
     path: &'a str,
@@ -79,12 +74,10 @@ fn words_of(bytes: &[u8]) -> Option<Words<'_>>
     ensures { MatchOption result ((method path token : List ℕ) (rest : Option (List ℕ)) → AreWords bytes.now method path token rest → ⊥)
         (λ words. AreWords bytes.now words.method.now words.path.now words.token.now (option_map (λ rest. rest.now) words.rest)) }
 {
-    let (method, Some(after)) = first_word(bytes) else {
-        return None;
-    };
-    let (path, Some(last)) = first_word(after) else {
-        return None;
-    };
+    let (method, after) = first_word(bytes);
+    let after = after?;
+    let (path, last) = first_word(after);
+    let last = last?;
     let (token, rest) = first_word(last);
     let method = word_of(method)?;
     let path = word_of(path)?;

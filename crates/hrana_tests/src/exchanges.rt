@@ -9,7 +9,9 @@ use std::test::Fail;
 
 /// The first batons, where each word that is drawn is 0.
 const B1: &str = "AAAAAAAAAAEAAAAAAAAAAAAAAAAAAAAA";
+
 const B2: &str = "AAAAAAAAAAIAAAAAAAAAAAAAAAAAAAAA";
+
 const B3: &str = "AAAAAAAAAAMAAAAAAAAAAAAAAAAAAAAA";
 
 const EMPTY: &str =
@@ -122,7 +124,10 @@ const REFUSALS: [(&str, &str); 17] = [
     ("? 1 POST /v3/cursor secret {}\n", "< 1 404\n"),
     ("? 1 POST /v3 -\n", "< 1 405\n"),
     ("? 1 GET /v3/pipeline -\n", "< 1 405\n"),
-    ("? 1 PUT /v3/pipeline secret {\"requests\":[]}\n", "< 1 405\n"),
+    (
+        "? 1 PUT /v3/pipeline secret {\"requests\":[]}\n",
+        "< 1 405\n",
+    ),
     ("? 1 GET /v3 -\n", "< 1 200\n"),
     (
         "? 1 POST /v3/pipeline - {\n",

@@ -18,6 +18,6 @@ returns-clause-outcome g c =
     let both = c.a_new_hub_agrees.ensures _ _ _ _ n c.requires.quiet in
     draws_then _ _ _ _ _ _ _ _ l.adds s.adds (λ k d a b. run_outcome _ _ _ _ _ _ _ _ _ _ _ _ _ _ _ _ _ _ _ _ _ _ _ _
     (adds_then _ _ _ _ _ _ _ _ _ _ _ _ _ _ _ _ _ _ a b
-    (λ x y p q left. rw n.token at (replayed_of _ _ _ _ _ _ _ s.later l.later _ _ _ _ _ _ _ _ _ k d x y l.token s.last p (halted_fits _ _ _ _ _ _ _ _ _ _ _ p l.few) q left)))
+    (λ x y p q left. rw n.token at (replayed_of _ _ _ _ _ _ _ s.later l.later _ _ _ _ _ _ _ _ _ _ k d x y l.token s.last p (halted_fits _ _ _ _ _ _ _ _ _ _ _ p l.few) q left)))
     n.no_entries c.into_entries.ensures both.1 c.journal_says_what_stands.ensures.explained s.quiet
     (write_last _ _ _ _ _ _ _ s.later l.later _ s.last l.write) (saving_last _ _ _ _ _ _ _ s.later l.later s.last l.saving) (leaves_last _ _ _ _ _ _ _ s.later l.later s.last l.unsaved) (done_last _ _ _ _ _ _ _ s.later l.later s.last l.unsaved))

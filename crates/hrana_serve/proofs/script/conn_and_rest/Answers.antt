@@ -1,7 +1,7 @@
 use Rattle.std.proofs.Common.{arith}
 use Rattle.std.proofs.lemmas.Result.{err_from_is_err_and}
 use Rattle.hrana_serve.proofs.ScriptLemmas.{space_after, no_space}
-use Rattle.hrana_serve.proofs.script.text_of.Goals as goal
+use Rattle.hrana_serve.proofs.script.conn_and_rest.Goals as goal
 
 pub returns-in_default-clause-none : goal.returns-in_default-clause-none
 returns-in_default-clause-none c = λ _ n t lt e. no_space c.args.bytes.now t n e c.in_default.ensures
