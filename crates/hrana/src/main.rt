@@ -18,7 +18,8 @@ Usage: hrana COMMAND
 Commands:
   replay [TOKEN]  Read a script from standard input, run the event of each line,
                   and print what the server sends. With a TOKEN of 1 to 4096
-                  bytes, only a hello whose jwt it is gets accepted.
+                  bytes, a hello has to bring it as its jwt, and an HTTP request
+                  as its bearer.
                   Example: hrana replay < examples/hello.script
 
 Options, alone:
