@@ -70,6 +70,14 @@ pub record Spent (text : List ℕ) (s : State) : Type 0 where
   pub none : (n : ℕ) (b : Issued) → Waits s.streams n (rests_with b) → b.text ≡ text → ⊥
   pub issued : IsOfIssue s.issued text
 
+waits_there : {s : State} {text : List ℕ} {n : ℕ} {x : Stream} (w : Awaits s text n x) → Waits s.streams n (rests_with w.baton)
+waits_there {x = x} w = record { x = x; known = w.known; session = w.rests }
+
+-- one stream alone is that of a baton, or the next that opens
+pub one_stream : (s : State) (held : Held s) (baton : Option (List ℕ)) (n m : ℕ) → IsBy s n baton → IsBy s m baton → n ≡ m
+one_stream s held None n m a b = a.0 ∙ sym b.0
+one_stream s held (Some text) n m a b = held.apart n m a.1.baton b.1.baton (waits_there a.1) (waits_there b.1) (a.1.text_is ∙ sym b.1.text_is)
+
 one_issued : {b d : Issued} → ◌≡◌ {A = Session} (rests_with b) (rests_with d) → b ≡ d
 one_issued h = cc
 
@@ -147,7 +155,7 @@ few_events s event f =
     let parts = and_parts (not s.stopped && nat_lt s.events MAX_EVENTS) (may_come s event) f in
     ltb-true s.events MAX_EVENTS (and_parts (not s.stopped) (nat_lt s.events MAX_EVENTS) parts.0).1
 
-counted_held : (s : State) → Held s → Held (counted s)
+pub counted_held : (s : State) → Held s → Held (counted s)
 counted_held s h = record { issued = h.issued; apart = h.apart; few = omega (arith, h.few) }
 
 module _ (token : Option (List ℕ)) (shared : Bool) (s : State) (event : Event) (draws : List Draw) (added : List Entry) (out : Outs) (new : State) (kept : Kept s) (fit : fits s event ≡ true) (step : Step token shared s event draws added out new) where
@@ -164,7 +172,7 @@ module _ (token : Option (List ℕ)) (shared : Bool) (s : State) (event : Event)
   step_spent : (text : List ℕ) → Held s → Spent text s → Spent text new
   step_spent text held h = (let few = few_events s event fit in moves_spent (counted s) new (counted_held s held) text (omega (arith, few, held.few)) moves (record { none = h.none; issued = h.issued }))
 
-run_held : {token : Option (List ℕ)} {shared : Bool} {events : List Event} {drawn : List (List Draw)} {entries : List (List Entry)} {outs : List Outs} {s : State} → Run token shared events drawn entries outs s → Held s
+pub run_held : {token : Option (List ℕ)} {shared : Bool} {events : List Event} {drawn : List (List Draw)} {entries : List (List Entry)} {outs : List Outs} {s : State} → Run token shared events drawn entries outs s → Held s
 run_held start = record { issued = λ n b w. absurd (none_some w.known); apart = λ n m b d v w e. absurd (none_some v.known); few = omega arith }
 run_held {token} {shared} (more {s = before} run event draws added out new fit step) = step_held token shared before event draws added out new (run_kept run) fit step (run_held run)
 
@@ -185,18 +193,15 @@ module _ (law : NoBytesHaveTwoBodyReadings) (token : Option (List ℕ)) (s : Sta
   waits : (x : Stream) × Awaits s text n x
   waits = awaits_by body.baton brings accepted.by
 
-  rests_there : (m : ℕ) (x : Stream) (w : Awaits s text m x) → Waits s.streams m (rests_with w.baton)
-  rests_there m x w = record { x = x; known = w.known; session = w.rests }
-
   text_issued : IsOfIssue s.issued text
-  text_issued = subst (IsOfIssue s.issued) waits.1.text_is (held.issued n waits.1.baton (rests_there n waits.0 waits.1))
+  text_issued = subst (IsOfIssue s.issued) waits.1.text_is (held.issued n waits.1.baton (waits_there waits.1))
 
   -- its stream rests with another from now on, or runs
   put_spent : (m : ℕ) (x y : Stream) (now : Session) → at m s.streams ≡ Some x → y.session ≡ Some now → ((b : Issued) → rests_with b ≡ now → b.text ≡ text → ⊥) → Awaits s text m x → new.streams ≡ put m y s.streams → s.issued ≤ new.issued → Spent text new
   put_spent m x y now known is not w ss le = record {
     none = λ k b v e. elim (but_put s.streams m x y now known is k (rests_with b) (subst (λ fs. Waits fs k (rests_with b)) ss v)) [
       | inl own ↦ not b own.1 e
-      | inr other ↦ other.0 (held.apart k m b w.baton other.1 (rests_there m x w) (e ∙ sym w.text_is))
+      | inr other ↦ other.0 (held.apart k m b w.baton other.1 (waits_there w) (e ∙ sym w.text_is))
     ];
     issued = later_issue s.issued new.issued text le text_issued;
   }
@@ -229,7 +234,7 @@ counted_by : (s : State) (n : ℕ) (baton : Option (List ℕ)) → IsBy s n bato
 counted_by s n None h = h
 counted_by s n (Some text) h = (h.0, record { baton = h.1.baton; known = h.1.known; rests = h.1.rests; text_is = h.1.text_is; young = h.1.young })
 
-counted_accepts : (token : Option (List ℕ)) (s : State) (ask : HttpAsk) (draws : List Draw) (n : ℕ) (body : PipelineBody) → Accepts token s ask draws n body → Accepts token (counted s) ask draws n body
+pub counted_accepts : (token : Option (List ℕ)) (s : State) (ask : HttpAsk) (draws : List Draw) (n : ℕ) (body : PipelineBody) → Accepts token s ask draws n body → Accepts token (counted s) ask draws n body
 counted_accepts token s ask draws n body h = record { routed = h.routed; asked = h.asked; drawn = h.drawn; one = h.one; by = counted_by s n body.baton h.by }
 
 pub no_baton_twice : NoBytesHaveTwoBodyReadings → NoBatonTwice

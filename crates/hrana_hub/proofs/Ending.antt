@@ -24,7 +24,7 @@ use Rattle.stream_task.specs.Session.{open_of}
 use Rattle.stream_task.specs.Together.{AgreesAt, Put, HasEnded, EndsTogether, EachMayPoll, MayPoll, is_open, numbered}
 use Rattle.stream_task.specs.declared.session.TxnState.{TxnState}
 use Rattle.stream_task.specs.declared.session.TxnState.TheVariants.{Auto, Deferred, Reading, Writing, Dead, Closed}
-use Rattle.hrana_hub.specs.Maps.{Numbered, at, without}
+use Rattle.hrana_hub.specs.Maps.{Numbered, at, without, first_number}
 use Rattle.hrana_hub.specs.State.{Conn, Stream, State, Seen, states_of, state_in, of_exchanges}
 use Rattle.hrana_hub.specs.Adds.{Adds, LeadsOn}
 use Rattle.baton_store.specs.Batons.{Batons}
@@ -36,6 +36,7 @@ use Rattle.hrana_hub.specs.Polled.{with_streams}
 use Rattle.hrana_hub.specs.Step.{LostAt, ExchangeLost}
 use Rattle.hrana_hub.proofs.Adding.{adds_one}
 use Rattle.hrana_hub.proofs.EntryLemmas.{at_first, without_first, without_unknown, at_without, at_without_other, rising_without}
+use Rattle.hrana_hub.proofs.MapLemmas.{none_some, some_one}
 use Rattle.hrana_hub.proofs.Waiting.{has_gone, waits_on}
 use Rattle.hrana_hub.proofs.Agreeing.{without_states, numbers_without, units_without}
 
@@ -193,18 +194,17 @@ let_go_of n x old new h known streams opened = record {
 
 -- ---- the first of all
 
-pub at_head : (e : ℕ × Stream) (es rest : Numbered Stream) → es ≡ e ∷ rest → at e.0 es ≡ Some e.1
-at_head e es rest is = ap (at e.0) is ∙ at_first e rest
+pub end_of_first : (why : Undo) (n : ℕ) (es : Numbered Stream) → first_number es ≡ Some n → end_of why (at n es) ≡ all_ends why (take 1 es)
+end_of_first why n [] is = absurd (none_some is)
+end_of_first why n (e ∷ es) is = ap (λ k. end_of why (at k (e ∷ es))) (sym (some_one is)) ∙ ap (end_of why) (at_first e es) ∙ sym (append-nil (end_of why (Some e.1)))
 
-pub without_head : (e : ℕ × Stream) (es rest : Numbered Stream) → es ≡ e ∷ rest → rest ≡ without e.0 es
-without_head e es rest is = sym (ap (without e.0) is ∙ without_first e rest)
+pub without_lowest : (n : ℕ) (es : Numbered Stream) → first_number es ≡ Some n → without n es ≡ drop 1 es
+without_lowest n [] is = absurd (none_some is)
+without_lowest n (e ∷ es) is = ap (λ k. without k (e ∷ es)) (sym (some_one is)) ∙ without_first e es
 
-pub end_of_head : (why : Undo) (e : ℕ × Stream) (es rest : Numbered Stream) → es ≡ e ∷ rest → end_of why (at e.0 es) ≡ all_ends why (take 1 es)
-end_of_head why e es rest is = ap (end_of why) (at_head e es rest is) ∙ sym (ap (λ l. all_ends why (take 1 l)) is ∙ append-nil (end_of why (Some e.1)))
-
-pub none_first : (es : Numbered Stream) → (0 < length es → ⊥) → es ≡ []
-none_first [] never = refl
-none_first (e ∷ es) never = absurd (never (omega arith))
+pub none_first : (es : Numbered Stream) → first_number es ≡ None → es ≡ []
+none_first [] is = refl
+none_first (e ∷ es) is = absurd (none_some (sym is))
 
 -- ---- one after another
 

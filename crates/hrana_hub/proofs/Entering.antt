@@ -1,6 +1,5 @@
 -- Exchanges that come in: what they draw, and what they leave.
-use Rattle.std.proofs.Common.{◌≡◌, ◌+◌, ℕ, Bool, true, false, cond, List, [], ◌∷◌, length, filter, Option, Some, Result, Ok, Err, refl, sym, ap, ◌∙◌, arith, append-nil}
-use Rattle.std.specs.Map.{values_of}
+use Rattle.std.proofs.Common.{◌≡◌, ◌+◌, ℕ, Bool, true, false, cond, List, [], ◌∷◌, Option, Some, Result, Ok, Err, refl, sym, ap, ◌∙◌, arith, append-nil}
 use Rattle.stream_requests.specs.declared.asks.Ask.{Ask}
 use Rattle.http_wire.specs.declared.outs.Outs.{Outs}
 use Rattle.pipeline_body.specs.Exchanges.{Progress, is_over, pipeline_answer}
@@ -16,12 +15,12 @@ use Rattle.hrana_hub.specs.declared.sessions.Session.TheVariants.{Running}
 use Rattle.hrana_hub.specs.Arrivals.{IsAfter, nothing}
 use Rattle.hrana_hub.specs.Askers.{asks_these}
 use Rattle.hrana_hub.specs.Drawn.{DrawsFrom}
-use Rattle.hrana_hub.specs.Exchanges.{answers_with, next_baton, in_session, with_exchange, works_of, sessions_in, starts_if}
+use Rattle.hrana_hub.specs.Exchanges.{answers_with, next_baton, in_session, with_exchange, works_of, starts_if}
 use Rattle.hrana_hub.specs.ExchangeArrived.{Started}
 use Rattle.hrana_hub.specs.ExchangeSettled.{HandsOut}
 use Rattle.hrana_hub.specs.Maps.{Numbered, put}
 use Rattle.hrana_hub.specs.Polled.{with_streams}
-use Rattle.hrana_hub.specs.State.{Stream, State, Seen, with_state, of_exchanges}
+use Rattle.hrana_hub.specs.State.{Stream, State, Seen, with_state}
 use Rattle.hrana_hub.proofs.ArrivalLemmas.{only_place}
 
 -- ---- what is drawn
@@ -50,16 +49,6 @@ module _ {T : Type 0} (drawn : T → Option (List Draw)) (faults : T → ℕ) (t
     cause = cause.failed;
     holds = holds;
   }
-
--- ---- how many streams of exchanges there are
-
-one_more : (b : Bool) (x : Stream) (xs : List Stream) (n : ℕ) → length xs ≡ n → length (cond b (x ∷ xs) xs) ≡ cond b 1 0 + n
-one_more true x xs n e = omega arith
-one_more false x xs n e = omega arith
-
-pub sessions_counted : (es : Numbered Stream) → length (filter of_exchanges (values_of es)) ≡ sessions_in es
-sessions_counted [] = refl
-sessions_counted (e ∷ es) = one_more (of_exchanges e.1) e.1 (filter of_exchanges (values_of es)) (sessions_in es) (sessions_counted es)
 
 -- ---- the exchange begins
 

@@ -88,6 +88,15 @@ module _ {A : Type 0} where
       by later true t = cond_yes (is_at (nat_cmp n) e.0) es ((e.0, x) ∷ without n es) t
       by later false t = cond_no (is_at (nat_cmp n) e.0) (put n x es) (e ∷ without n (put n x es)) t ∙ ap (λ l. e ∷ l) later
 
+  -- where nothing stands, nothing is put
+  pub put_unknown : (n : ℕ) (y : A) (es : Numbered A) → at n es ≡ None → put n y es ≡ es
+  put_unknown n y [] e = refl
+  put_unknown n y (x ∷ es) e = by (put_unknown n y es) (is_at (nat_cmp n) x.0) e
+    where
+      by : (at n es ≡ None → put n y es ≡ es) → (b : Bool) → cond b (Some x.1) (at n es) ≡ None → cond b ((x.0, y) ∷ es) (x ∷ put n y es) ≡ x ∷ es
+      by later true f = absurd (cc)
+      by later false f = ap (λ l. x ∷ l) (later f)
+
   -- ---- where something is taken away
 
   pub at_without : (n : ℕ) (es : Numbered A) → IsRising es → at n (without n es) ≡ None

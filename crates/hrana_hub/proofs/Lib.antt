@@ -16,6 +16,7 @@ pub mod CallLemmas
 pub mod Listed
 pub mod WaitSums
 pub mod SessionSums
+pub mod Summing
 pub mod Left
 pub mod Standing
 pub mod Touching

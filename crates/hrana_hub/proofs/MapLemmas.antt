@@ -131,7 +131,7 @@ above_trans : {A : Type 0} (m n : ℕ) (es : Numbered A) → m ≤ n → AllAbov
 above_trans m n [] le h = tt
 above_trans m n (e ∷ es) le h = (omega (arith, h.0), above_trans m n es le h.1)
 
-none_above : {A : Type 0} (n : ℕ) (es : Numbered A) → AllAbove n es → at n es ≡ None
+pub none_above : {A : Type 0} (n : ℕ) (es : Numbered A) → AllAbove n es → at n es ≡ None
 none_above n [] h = refl
 none_above n (e ∷ es) h = at_later n e es (λ same. omega (arith, h.0)) ∙ none_above n es h.1
 

@@ -1,6 +1,6 @@
 -- In every run the exchanges of each stream are answered in their order.
 use Rattle.std.proofs.Common.{◌≡◌, ◌≢◌, ◌≤◌, ◌+◌, ℕ, ℤ, Bool, true, false, nat_le, List, [], ◌∷◌, length, All, Option, None, Some, MatchBool, refl, sym, ap, ◌∙◌, subst, arith, inl, inr}
-use Rattle.std.proofs.lemmas.Bool.{cases_eq, cases_order}
+use Rattle.std.proofs.lemmas.Bool.{cases_eq, cases_order, leb-true, leb-false, true≢false}
 use Rattle.std.proofs.lemmas.List.Elements.{All-head, All-tail}
 use Rattle.hrana_value.specs.declared.StreamNo.{StreamNo}
 use Rattle.stream_requests.specs.Asks.{ask_kind, AskFits}
@@ -10,7 +10,7 @@ use Rattle.stream_requests.specs.declared.asks.Ask.TheVariants as ask
 use Rattle.http_wire.specs.declared.asks.HttpAsk.{HttpAsk}
 use Rattle.http_wire.specs.declared.outs.HttpAnswer.{HttpAnswer}
 use Rattle.http_wire.specs.declared.outs.Outs.{Outs}
-use Rattle.pipeline_body.specs.Bodies.{IsBody}
+use Rattle.pipeline_body.specs.Bodies.{IsBody, NoBytesHaveTwoBodyReadings}
 use Rattle.pipeline_body.specs.Exchanges.{EachHasItsResult, AsksOfBodiesFit, IsAsked, route_answer, begins, asked_in, is_over}
 use Rattle.pipeline_body.specs.declared.bodies.PipelineBody.{PipelineBody}
 use Rattle.pipeline_body.specs.declared.exchange.Asked.{Asked}
@@ -35,8 +35,10 @@ use Rattle.hrana_hub.specs.Run.{Run, start, more}
 use Rattle.hrana_hub.specs.Step.{ComesOf, Falls, Happens, Goes, Heard, PolledBy, PolledAt, PollFellOn, PollFellBy, PollFellAt, LostAt, ExchangeFell, ExchangeGoes, is_short, counted}
 use Rattle.hrana_hub.specs.Stories.{BeganAt, AreVersions}
 use Rattle.hrana_hub.specs.Talks.{Talk, no_talk, then, Accepts, IsBy, answers_in, PassesBy, Says, polls, takes, passes, IsTalk, HasTold, AnswersInOrder}
+use Rattle.hrana_hub.proofs.BatonRuns.{Held, counted_held, run_held, one_stream, counted_accepts}
 use Rattle.hrana_hub.proofs.Changes.{Change, step_changes}
 use Rattle.hrana_hub.proofs.Counted.{Counts, counted_counts, run_counts}
+use Rattle.hrana_hub.proofs.DeadBatons.{one_body, no_unreadable}
 use Rattle.hrana_hub.proofs.EntryLemmas.{at_put, at_put_other, at_without}
 use Rattle.hrana_hub.proofs.Kept.{counted_kept, run_kept}
 use Rattle.hrana_hub.proofs.MapLemmas.{none_some, some_one, at_placed, at_placed_other}
@@ -70,14 +72,18 @@ works_count (a ∷ asks) fits = one a (All-head IsFit a asks fits) (works_count 
 
 -- ---- an exchange that comes
 
-module _ (each : EachHasItsResult) (fit : AsksOfBodiesFit) (token : Option (List ℕ)) (shared : Bool) (had : ℕ → ℕ) (n : ℕ) (t : Talk) (s : State) (h : Follows shared had n t s) (draws : List Draw) (added : List Entry) (out : Outs) (new : State)
-    (kept : Kept s) (c : ℕ) (ask : HttpAsk) where
+module _ (bodies : NoBytesHaveTwoBodyReadings) (each : EachHasItsResult) (fit : AsksOfBodiesFit) (token : Option (List ℕ)) (shared : Bool) (had : ℕ → ℕ) (n : ℕ) (t : Talk) (s : State) (h : Follows shared had n t s) (draws : List Draw) (added : List Entry) (out : Outs) (new : State)
+    (kept : Kept s) (held : Held s) (c : ℕ) (ask : HttpAsk) where
   abbrev Came : Type 0
   Came = Goes' token shared had n t s (Exchange c ask) draws added out new
 
+  -- it is accepted for no stream of this number
+  abbrev Refused : Type 0
+  Refused = PassesBy token s draws n (Exchange c ask)
+
   -- nothing changes
-  rested : new ≡ s → Came
-  rested left = passing token shared had n t s h draws added out new (Exchange c ask) (ap (λ (u : State). at n u.streams) left) (omega (arith, ap (λ (u : State). u.opened) left)) (lets_same n s new (ap (λ (u : State). at n u.streams) left))
+  rested : Refused → new ≡ s → Came
+  rested refused left = passing token shared had n t s h draws added out new (Exchange c ask) refused (omega (arith, ap (λ (u : State). u.opened) left)) (lets_same n s new (ap (λ (u : State). at n u.streams) left))
 
   taken : (body : PipelineBody) → Accepts token s ask draws n body → (answers : List Outs) → answers_in out out.out ≡ answers → Follows shared had n (then t (record { accepted = record { conn = c; asks = body.asks; close = ask.close } ∷ []; used = []; answers = answers })) new → Came
   taken body accepts answers there f = record {
@@ -92,9 +98,12 @@ module _ (each : EachHasItsResult) (fit : AsksOfBodiesFit) (token : Option (List
     abbrev e : Runs
     e = record { conn = c; words = drawn; close = ask.close; exchange = begins body.asks }
 
+    by_other : n ≢ m → Refused
+    by_other other body' a = other (one_stream s held body.baton n m (subst (λ (b : PipelineBody). IsBy s n b.baton) (one_body bodies ask.body body' body a.asked.1 is_body) a.by) accepts.by)
+
     -- the streams but this are as before
     apart : (y : Stream) → n ≢ m → new.streams ≡ put m y u.streams → u.opened ≤ new.opened → Came
-    apart y other ss later = passing token shared had n t s h draws added out new (Exchange c ask) same (omega (arith, opened, later)) (lets_same n s new same)
+    apart y other ss later = passing token shared had n t s h draws added out new (Exchange c ask) (by_other other) (omega (arith, opened, later)) (lets_same n s new same)
       where
         same : at n new.streams ≡ at n s.streams
         same = ap (λ fs. at n fs) ss ∙ at_put_other m n x y u.streams known other ∙ others n other
@@ -146,19 +155,23 @@ module _ (each : EachHasItsResult) (fit : AsksOfBodiesFit) (token : Option (List
     accepted_by : (m : ℕ) → IsBy s m body.baton → Accepts token s ask draws m body
     accepted_by m by = record { routed = routed; asked = is_asked; drawn = drawn; one = one; by = by }
 
-    opens : (full : Bool) → body.baton ≡ None → Does (opens_unless full (asked_in body.asks) (record { conn = c; words = drawn; close = ask.close; exchange = begins body.asks }) s) out new → Came
-    opens true none d = rested d.left
-    opens false none d =
+    -- no other body than this is read
+    for_none : ((m : ℕ) → IsBy s m body.baton → ⊥) → Refused
+    for_none none body' a = none n (subst (λ (b : PipelineBody). IsBy s n b.baton) (one_body bodies ask.body body' body a.asked.1 is_asked.1) a.by)
+
+    opens : (full : Bool) → nat_le MAX_SESSIONS (sessions_in s.streams) ≡ full → body.baton ≡ None → Does (opens_unless full (asked_in body.asks) (record { conn = c; words = drawn; close = ask.close; exchange = begins body.asks }) s) out new → Came
+    opens true are none d = rested (for_none (λ m by. (let free = subst (IsBy s m) none by in let many = leb-true MAX_SESSIONS (sessions_in s.streams) are in omega (arith, free.1, many)))) d.left
+    opens false are none d =
         let m = s.opened + 1 in
         let x = fresh_session s.now c m in
-        starts body drawn m x (with_session c s) (at_placed m x s.streams) (omega arith) (omega arith) (λ k other. at_placed_other m k x s.streams other) is_asked.1 (accepted_by m (subst (IsBy s m) (sym none) refl))
+        starts body drawn m x (with_session c s) (at_placed m x s.streams) (omega arith) (omega arith) (λ k other. at_placed_other m k x s.streams other) is_asked.1 (accepted_by m (subst (IsBy s m) (sym none) (refl, leb-false MAX_SESSIONS (sessions_in s.streams) are)))
         (λ own. subst (λ v. Rests shared had v x) (sym (h.fresh (omega (arith, own)))) (fresh_rests shared had x refl refl)) d
 
     resting : (m : ℕ) (x : Stream) (text : List ℕ) (w : Awaits s text m x) → n ≡ m → Rests shared had t x
     resting m x text w own = subst (λ o. Owns shared had o t x) w.rests (h.own x (ap (λ k. at k s.streams) own ∙ w.known))
 
     by_baton : (baton : Option (List ℕ)) → body.baton ≡ baton → GoesBy baton (asked_in body.asks) (record { conn = c; words = drawn; close = ask.close; exchange = begins body.asks }) s out new → Came
-    by_baton None is d = opens (nat_le MAX_SESSIONS (sessions_in s.streams)) is d
+    by_baton None is d = opens (nat_le MAX_SESSIONS (sessions_in s.streams)) refl is d
     by_baton (Some text) is (inl g) = starts body drawn g.stream g.x s g.awaits.known (omega arith) (given g.stream g.x g.awaits.known) (λ k other. refl) is_asked.1 (accepted_by g.stream (subst (IsBy s g.stream) (sym is) (g.x, g.awaits)))
         (resting g.stream g.x text g.awaits) g.does
       where
@@ -167,19 +180,20 @@ module _ (each : EachHasItsResult) (fit : AsksOfBodiesFit) (token : Option (List
           | inl same ↦ omega (arith, same)
           | inr order ↦ elim order [ inl less ↦ omega (arith, less) | inr beyond ↦ absurd (none_some (sym (kept.above m beyond) ∙ e)) ]
         ]
-    by_baton (Some text) is (inr dead) = rested dead.does.left
+    by_baton (Some text) is (inr dead) = rested (for_none (λ m by. (let live = subst (IsBy s m) is by in dead.none m live.0 live.1))) dead.does.left
 
   by_draw : (draw : Draw) (body : PipelineBody) → IsAsked (accepts token ask.bearer) ask (Pipeline body) → route_answer ask ≡ None → draws ≡ draw ∷ [] → GoesDrawn draw body c ask.close s out new → Came
-  by_draw failed body is_asked routed one d = rested d.left
+  by_draw failed body is_asked routed one d = rested (λ other a. (let no : failed ∷ [] ≡ words a.drawn ∷ [] = sym one ∙ a.one in absurd (cc))) d.left
   by_draw (words drawn) body is_asked routed one g = by_baton body drawn is_asked routed one body.baton refl g
 
   by_asked : (a : Asked) → IsAsked (accepts token ask.bearer) ask a → route_answer ask ≡ None → GoesAsked a c ask.close s draws out new → Came
-  by_asked (Answered reply) is_asked routed g = rested g.1.left
+  by_asked (Answered reply) (inl is_asked) routed g = rested (λ other a. absurd (true≢false (sym a.asked.0 ∙ is_asked.0))) g.1.left
+  by_asked (Answered reply) (inr is_asked) routed g = rested (λ other a. no_unreadable bodies ask.body other a.asked.1 is_asked.1) g.1.left
   by_asked (Pipeline body) is_asked routed g = by_draw g.0 body is_asked routed g.1 g.2
 
   exchange_goes : (o : Option HttpAnswer) → route_answer ask ≡ o → ExchangeGoes o token s c ask draws out new → Came
-  exchange_goes (Some reply) routed g = rested g.1.left
-  exchange_goes None routed g = either (is_short out) (λ (f : ExchangeFell s c ask draws out new). rested f.2) (λ (k : IsHeard token s c ask draws out new). by_asked k.asked k.is_asked routed k.goes) g
+  exchange_goes (Some reply) routed g = rested (λ other a. none_some (sym a.routed ∙ routed)) g.1.left
+  exchange_goes None routed g = either (is_short out) (λ (f : ExchangeFell s c ask draws out new). rested (λ other a. (let no : [] ≡ words a.drawn ∷ [] = sym f.0 ∙ a.one in absurd (cc))) f.2) (λ (k : IsHeard token s c ask draws out new). by_asked k.asked k.is_asked routed k.goes) g
 
 -- ---- a poll
 
@@ -246,8 +260,8 @@ module _ (law : TaskMeans) (each : EachHasItsResult) (token : Option (List ℕ))
 
 -- ---- every event
 
-module _ (law : TaskMeans) (each : EachHasItsResult) (fit : AsksOfBodiesFit) (token : Option (List ℕ)) (shared : Bool) (had : ℕ → ℕ) (n : ℕ) (t : Talk) (s : State) (h : Follows shared had n t s) (draws : List Draw) (added : List Entry) (out : Outs) (new : State)
-    (kept : Kept s) (counts : Counts s) (began : All (BeganAt had s.version) added) where
+module _ (law : TaskMeans) (bodies : NoBytesHaveTwoBodyReadings) (each : EachHasItsResult) (fit : AsksOfBodiesFit) (token : Option (List ℕ)) (shared : Bool) (had : ℕ → ℕ) (n : ℕ) (t : Talk) (s : State) (h : Follows shared had n t s) (draws : List Draw) (added : List Entry) (out : Outs) (new : State)
+    (kept : Kept s) (held : Held s) (counts : Counts s) (began : All (BeganAt had s.version) added) where
   abbrev Goes'' : Event → Type 0
   Goes'' event = Goes' token shared had n t s event draws added out new
 
@@ -257,7 +271,7 @@ module _ (law : TaskMeans) (each : EachHasItsResult) (fit : AsksOfBodiesFit) (to
   lost_either c false g = g
 
   event_goes : (event : Event) → Change shared s added out new event → ComesOf token shared s event draws added out new → Goes'' event
-  event_goes (Exchange c ask) change g = exchange_goes each fit token shared had n t s h draws added out new kept c ask (route_answer ask) refl g.1
+  event_goes (Exchange c ask) change g = exchange_goes bodies each fit token shared had n t s h draws added out new kept held c ask (route_answer ask) refl g.1
   event_goes (Opened c) change g = aside_goes token shared had n t s h draws added out new kept counts (Opened c) tt tt change
   event_goes (Text c text) change g = aside_goes token shared had n t s h draws added out new kept counts (Text c text) tt tt change
   event_goes (Binary c) change g = aside_goes token shared had n t s h draws added out new kept counts (Binary c) tt tt change
@@ -275,26 +289,29 @@ counted_follows : (shared : Bool) (had : ℕ → ℕ) (n : ℕ) (t : Talk) (s : 
 counted_follows shared had n t s h = record { fresh = h.fresh; front = h.front; own = h.own }
 
 -- that the event was counted makes no odds
-counted_passes : (n : ℕ) (event : Event) (s new : State) → PassesBy n event (counted s) new → PassesBy n event s new
-counted_passes n (Opened c) s new h = h
-counted_passes n (Text c text) s new h = h
-counted_passes n (Binary c) s new h = h
-counted_passes n (Exchange c ask) s new h = h
-counted_passes n (Lost c) s new h = h
-counted_passes n (Moment moment) s new h = h
-counted_passes n (Poll stream) s new h = h
-counted_passes n Stop s new h = h
-
 uncounted_by : (s : State) (n : ℕ) (baton : Option (List ℕ)) → IsBy (counted s) n baton → IsBy s n baton
 uncounted_by s n None h = h
 uncounted_by s n (Some text) h = (h.0, record { baton = h.1.baton; known = h.1.known; rests = h.1.rests; text_is = h.1.text_is; young = h.1.young })
 
-counted_says : {event : Event} {u : Talk} (token : Option (List ℕ)) (n : ℕ) (draws : List Draw) (added : List Entry) (out : Outs) (s new : State) → Says token n draws added out (counted s) new event u → Says token n draws added out s new event u
-counted_says token n draws added out s new (polls stream own) = polls stream own
-counted_says token n draws added out s new (takes c ask body a) = takes c ask body (record { routed = a.routed; asked = a.asked; drawn = a.drawn; one = a.one; by = uncounted_by s n body.baton a.by })
-counted_says token n draws added out s new (passes event may) = passes event (counted_passes n event s new may)
+uncounted : (token : Option (List ℕ)) (s : State) (ask : HttpAsk) (draws : List Draw) (n : ℕ) (body : PipelineBody) → Accepts token (counted s) ask draws n body → Accepts token s ask draws n body
+uncounted token s ask draws n body a = record { routed = a.routed; asked = a.asked; drawn = a.drawn; one = a.one; by = uncounted_by s n body.baton a.by }
 
-module _ (law : TaskMeans) (each : EachHasItsResult) (fit : AsksOfBodiesFit) (closes_alone : ClosesAlone) where
+counted_passes : (token : Option (List ℕ)) (s : State) (draws : List Draw) (n : ℕ) (event : Event) → PassesBy token (counted s) draws n event → PassesBy token s draws n event
+counted_passes token s draws n (Opened c) h = h
+counted_passes token s draws n (Text c text) h = h
+counted_passes token s draws n (Binary c) h = h
+counted_passes token s draws n (Exchange c ask) h = λ body a. h body (counted_accepts token s ask draws n body a)
+counted_passes token s draws n (Lost c) h = h
+counted_passes token s draws n (Moment moment) h = h
+counted_passes token s draws n (Poll stream) h = h
+counted_passes token s draws n Stop h = h
+
+counted_says : {event : Event} {u : Talk} (token : Option (List ℕ)) (n : ℕ) (draws : List Draw) (added : List Entry) (out : Outs) (s : State) → Says token n draws added out (counted s) event u → Says token n draws added out s event u
+counted_says token n draws added out s (polls stream own) = polls stream own
+counted_says token n draws added out s (takes c ask body a) = takes c ask body (uncounted token s ask draws n body a)
+counted_says token n draws added out s (passes event may) = passes event (counted_passes token s draws n event may)
+
+module _ (law : TaskMeans) (bodies : NoBytesHaveTwoBodyReadings) (each : EachHasItsResult) (fit : AsksOfBodiesFit) (closes_alone : ClosesAlone) where
   record HasFollowed {token : Option (List ℕ)} {shared : Bool} {events : List Event} {drawn : List (List Draw)} {entries : List (List Entry)} {outs : List Outs} {s : State} (n : ℕ) (had : ℕ → ℕ) (run : Run token shared events drawn entries outs s) : Type 0 where
     talk : Talk
     is_talk : IsTalk n run talk
@@ -304,9 +321,9 @@ module _ (law : TaskMeans) (each : EachHasItsResult) (fit : AsksOfBodiesFit) (cl
   run_talks {shared} start had versions n = record { talk = no_talk; is_talk = refl; follows = record { fresh = λ l. refl; front = none_front shared had no_talk refl refl; own = λ x e. absurd (none_some e) } }
   run_talks {token} {shared} (more {s = before} run event draws added out new fits_now step) had versions n =
       let was = run_talks run had versions.0 n in
-      let goes = event_goes law each fit token shared had n was.talk (counted before) (counted_follows shared had n was.talk before was.follows) draws added out new (counted_kept before (run_kept run)) (counted_counts before (run_counts closes_alone run)) versions.1 event
+      let goes = event_goes law bodies each fit token shared had n was.talk (counted before) (counted_follows shared had n was.talk before was.follows) draws added out new (counted_kept before (run_kept run)) (counted_held before (run_held run)) (counted_counts before (run_counts closes_alone run)) versions.1 event
       (step_changes token shared before event draws added out new fits_now step) step in
-      record { talk = then was.talk goes.now; is_talk = (was.talk, goes.now, was.is_talk, counted_says token n draws added out before new goes.says, refl); follows = goes.follows }
+      record { talk = then was.talk goes.now; is_talk = (was.talk, goes.now, was.is_talk, counted_says token n draws added out before goes.says, refl); follows = goes.follows }
 
   pub answers_in_order : AnswersInOrder
   answers_in_order token shared events drawn entries outs s run had versions n =

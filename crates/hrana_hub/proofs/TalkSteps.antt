@@ -63,14 +63,14 @@ module _ (shared : Bool) (had : ℕ → ℕ) (n : ℕ) (t : Talk) (s : State) (h
 -- how the talk goes on with the event
 pub record Goes' (token : Option (List ℕ)) (shared : Bool) (had : ℕ → ℕ) (n : ℕ) (t : Talk) (s : State) (event : Event) (draws : List Draw) (added : List Entry) (out : Outs) (new : State) : Type 0 where
   pub now : Talk
-  pub says : Says token n draws added out s new event now
+  pub says : Says token n draws added out s event now
   pub follows : Follows shared had n (then t now) new
 
 module _ (token : Option (List ℕ)) (shared : Bool) (had : ℕ → ℕ) (n : ℕ) (t : Talk) (s : State) (h : Follows shared had n t s) (draws : List Draw) (added : List Entry) (out : Outs) (new : State) where
   abbrev On : Event → Type 0
   On event = Goes' token shared had n t s event draws added out new
 
-  pub passing : (event : Event) → PassesBy n event s new → s.opened ≤ new.opened → Lets n s new → On event
+  pub passing : (event : Event) → PassesBy token s draws n event → s.opened ≤ new.opened → Lets n s new → On event
   passing event may opened lets = record { now = no_talk; says = passes event may; follows = subst (λ u. Follows shared had n u new) (sym (then_none t)) (lets_follow shared had n t s h new opened lets) }
 
   -- ---- events that are neither polls nor exchanges
@@ -165,7 +165,7 @@ module _ (token : Option (List ℕ)) (shared : Bool) (had : ℕ → ℕ) (n : �
   pub poll_passes : (kept : Kept s) (stream : StreamNo) → stream.0 ≢ n → Change shared s added out new (Poll stream) → On (Poll stream)
   poll_passes kept stream other change = (let apart = poll_apart kept stream refl other change in passing (Poll stream) other apart.0 (lets_same n s new apart.1))
 
-  pub aside_goes : (kept : Kept s) (counts : Counts s) (event : Event) → Aside event → PassesBy n event s new → Change shared s added out new event → On event
+  pub aside_goes : (kept : Kept s) (counts : Counts s) (event : Event) → Aside event → PassesBy token s draws n event → Change shared s added out new event → On event
   aside_goes kept counts event aside may change = (let lets = change_lets kept counts aside change in passing event may lets.0 lets.1)
 
   -- ---- a poll of the stream

@@ -1,5 +1,5 @@
 -- The talk of a stream of exchanges goes on: where it opens, over each exchange that is accepted, over each poll.
-use Rattle.std.proofs.Common.{◌≡◌, ◌≤◌, ◌+◌, ℕ, Bool, true, List, [], ◌∷◌, ◌++◌, length, length-append, Option, None, Some, refl, sym, ap, ◌∙◌, subst, arith, append-nil, append_assoc}
+use Rattle.std.proofs.Common.{◌≡◌, ◌≤◌, ◌+◌, ℕ, Bool, true, false, List, [], ◌∷◌, ◌++◌, length, length-append, Option, None, Some, refl, sym, ap, ◌∙◌, subst, arith, append-nil, append_assoc}
 use Rattle.std.proofs.lemmas.Bool.{eqb-true}
 use Rattle.stream_requests.specs.declared.asks.Ask.{Ask}
 use Rattle.stream_requests.specs.declared.replies.Reply.{Reply}
@@ -16,7 +16,7 @@ use Rattle.hrana_hub.specs.declared.sessions.Session.TheVariants.{Resting, Runni
 use Rattle.hrana_hub.specs.State.{Stream}
 use Rattle.hrana_hub.specs.Exchanges.{answers_with, empty_503, works_of}
 use Rattle.hrana_hub.specs.Stories.{new_session}
-use Rattle.hrana_hub.specs.Talks.{Accepted, Talk, no_talk, then, works_in, AreAnswers, no_more, results, short, GoesOn, running, Tells, HasTold}
+use Rattle.hrana_hub.specs.Talks.{Accepted, Talk, no_talk, then, works_in, AreAnswers, no_more, results, falls, GoesOn, running, Tells, HasTold}
 
 -- ---- answers, all of which are there
 
@@ -31,17 +31,25 @@ whole_count _ _ _ none = refl
 whole_count _ _ _ (one_more before told answers a mine baton h count) = (let was = whole_count before told answers h in omega (arith, was, length-append before (a ∷ []), length-append answers (answers_with a.conn (pipeline_answer (results_of a.asks mine) baton a.close) ∷ [])))
 
 -- what comes behind them
-pub behind_whole : (before : List Accepted) (told : List Reply) (answers : List Outs) → Whole before told answers → (left : List Accepted) (rest : List Reply) (more : List Outs) → AreAnswers left rest more → AreAnswers (before ++ left) (told ++ rest) (answers ++ more)
-behind_whole _ _ _ none left rest more h = h
-behind_whole _ _ _ (one_more before told answers a mine baton w count) left rest more h =
+pub behind_whole : (may_fall : Bool) (before : List Accepted) (told : List Reply) (answers : List Outs) → Whole before told answers → (left : List Accepted) (rest : List Reply) (more : List Outs) → AreAnswers may_fall left rest more → AreAnswers may_fall (before ++ left) (told ++ rest) (answers ++ more)
+behind_whole may_fall _ _ _ none left rest more h = h
+behind_whole may_fall _ _ _ (one_more before told answers a mine baton w count) left rest more h =
     let out = answers_with a.conn (pipeline_answer (results_of a.asks mine) baton a.close) in
-    subst (λ l. AreAnswers l ((told ++ mine) ++ rest) ((answers ++ out ∷ []) ++ more)) (sym (append_assoc before (a ∷ []) left))
-    (subst (λ l. AreAnswers (before ++ a ∷ left) l ((answers ++ out ∷ []) ++ more)) (sym (append_assoc told mine rest))
-    (subst (λ l. AreAnswers (before ++ a ∷ left) (told ++ (mine ++ rest)) l) (sym (append_assoc answers (out ∷ []) more))
-    (behind_whole before told answers w (a ∷ left) (mine ++ rest) (out ∷ more) (results a left mine rest baton more count h))))
+    subst (λ l. AreAnswers may_fall l ((told ++ mine) ++ rest) ((answers ++ out ∷ []) ++ more)) (sym (append_assoc before (a ∷ []) left))
+    (subst (λ l. AreAnswers may_fall (before ++ a ∷ left) l ((answers ++ out ∷ []) ++ more)) (sym (append_assoc told mine rest))
+    (subst (λ l. AreAnswers may_fall (before ++ a ∷ left) (told ++ (mine ++ rest)) l) (sym (append_assoc answers (out ∷ []) more))
+    (behind_whole may_fall before told answers w (a ∷ left) (mine ++ rest) (out ∷ more) (results may_fall a left mine rest baton more count h))))
 
-pub whole_answers : (before : List Accepted) (told : List Reply) (answers : List Outs) → Whole before told answers → (left : List Accepted) (rest : List Reply) → AreAnswers (before ++ left) (told ++ rest) answers
-whole_answers before told answers w left rest = subst (λ l. AreAnswers (before ++ left) (told ++ rest) l) (append-nil answers) (behind_whole before told answers w left rest [] (no_more left rest))
+pub whole_answers : (may_fall : Bool) (before : List Accepted) (told : List Reply) (answers : List Outs) → Whole before told answers → (left : List Accepted) (rest : List Reply) → AreAnswers may_fall (before ++ left) (told ++ rest) answers
+whole_answers may_fall before told answers w left rest = subst (λ l. AreAnswers may_fall (before ++ left) (told ++ rest) l) (append-nil answers) (behind_whole may_fall before told answers w left rest [] (no_more may_fall left rest))
+
+only_whole : (may_fall : Bool) (before : List Accepted) (told : List Reply) (answers : List Outs) → Whole before told answers → AreAnswers may_fall before told answers
+only_whole may_fall before told answers w = subst (λ l. AreAnswers may_fall l told answers) (append-nil before) (subst (λ l. AreAnswers may_fall (before ++ []) l answers) (append-nil told) (whole_answers may_fall before told answers w [] []))
+
+-- answers none of which is empty are answers
+pub none_fell : (accepted : List Accepted) (told : List Reply) (answers : List Outs) → AreAnswers false accepted told answers → AreAnswers true accepted told answers
+none_fell _ _ _ (no_more may_fall left told) = no_more true left told
+none_fell _ _ _ (results may_fall a left mine told baton answers count h) = results true a left mine told baton answers count (none_fell left told answers h)
 
 -- ---- requests
 
@@ -96,7 +104,7 @@ module _ (shared : Bool) (had : ℕ → ℕ) where
   pub rests_tells : (t : Talk) (x : Stream) (b : Issued) → x.session ≡ Some (Resting (Some b)) → Rests t x → Tells shared had t x
   rests_tells t x b is h = record {
     told = h.told;
-    answers = subst (λ l. AreAnswers l h.told t.answers) (append-nil t.accepted) (subst (λ l. AreAnswers (t.accepted ++ []) l t.answers) (append-nil h.told) (whole_answers t.accepted h.told t.answers h.whole [] []));
+    answers = only_whole false t.accepted h.told t.answers h.whole;
     all = (let count = whole_count t.accepted h.told t.answers h.whole in let idle = ap running is in omega (arith, count, idle));
     means = h.means;
   }
@@ -104,7 +112,7 @@ module _ (shared : Bool) (had : ℕ → ℕ) where
   pub under_tells : (t : Talk) (x : Stream) (e : Runs) → x.session ≡ Some (Running e) → Under t x e → Tells shared had t x
   under_tells t x e is h = record {
     told = h.told ++ h.mine;
-    answers = subst (λ l. AreAnswers l (h.told ++ h.mine) t.answers) (sym h.accepted) (whole_answers h.before h.told t.answers h.whole (h.a ∷ []) h.mine);
+    answers = subst (λ l. AreAnswers false l (h.told ++ h.mine) t.answers) (sym h.accepted) (whole_answers false h.before h.told t.answers h.whole (h.a ∷ []) h.mine);
     all = (let count = whole_count h.before h.told t.answers h.whole in let runs = ap running is in let all = ap (λ l. length l) h.accepted in omega (arith, count, runs, all, length-append h.before (h.a ∷ [])));
     means = h.means;
   }
@@ -118,16 +126,16 @@ module _ (shared : Bool) (had : ℕ → ℕ) where
   pub rests_front : (t : Talk) (x : Stream) → Rests t x → HasTold shared had t
   rests_front t x h = record {
     told = h.told;
-    answers = subst (λ l. AreAnswers l h.told t.answers) (append-nil t.accepted) (subst (λ l. AreAnswers (t.accepted ++ []) l t.answers) (append-nil h.told) (whole_answers t.accepted h.told t.answers h.whole [] []));
+    answers = only_whole true t.accepted h.told t.answers h.whole;
     means = λ later rest. (_, h.means later rest);
   }
 
   pub tells_front : (t : Talk) (x : Stream) → Tells shared had t x → HasTold shared had t
-  tells_front t x h = record { told = h.told; answers = h.answers; means = λ later rest. (_, h.means later rest) }
+  tells_front t x h = record { told = h.told; answers = none_fell t.accepted h.told t.answers h.answers; means = λ later rest. (_, h.means later rest) }
 
   -- a stream of a connection has no exchanges
   pub none_front : (t : Talk) → t.accepted ≡ [] → t.answers ≡ [] → HasTold shared had t
-  none_front t a b = record { told = []; answers = subst (λ l. AreAnswers l [] t.answers) (sym a) (subst (λ l. AreAnswers [] [] l) (sym b) (no_more [] [])); means = λ later rest. (_, refl) }
+  none_front t a b = record { told = []; answers = subst (λ l. AreAnswers true l [] t.answers) (sym a) (subst (λ l. AreAnswers true [] [] l) (sym b) (no_more true [] [])); means = λ later rest. (_, refl) }
 
   -- ---- an exchange begins
 
@@ -272,8 +280,8 @@ module _ (shared : Bool) (had : ℕ → ℕ) where
     told = h.told ++ h.mine;
     answers =
         (let told_out : out ≡ empty_503 h.a.conn h.a.close = given ∙ ap (λ k. empty_503 k e.close) h.conn ∙ ap (λ b. empty_503 h.a.conn b) h.close in
-        subst (λ l. AreAnswers l (h.told ++ h.mine) (t.answers ++ out ∷ [])) (sym (append-nil t.accepted ∙ h.accepted))
-        (behind_whole h.before h.told t.answers h.whole (h.a ∷ []) h.mine (out ∷ []) (subst (λ o. AreAnswers (h.a ∷ []) h.mine (o ∷ [])) (sym told_out) (short h.a [] h.mine))));
+        subst (λ l. AreAnswers true l (h.told ++ h.mine) (t.answers ++ out ∷ [])) (sym (append-nil t.accepted ∙ h.accepted))
+        (behind_whole true h.before h.told t.answers h.whole (h.a ∷ []) h.mine (out ∷ []) (subst (λ o. AreAnswers true (h.a ∷ []) h.mine (o ∷ [])) (sym told_out) (falls h.a [] h.mine))));
     means = λ later rest. (_, polled_means t x (h.told ++ h.mine) added (out ∷ []) h.means later rest);
   }
 

@@ -8,6 +8,7 @@ pub mod Askers
 pub mod Exchanges
 pub mod Drawn
 pub mod Moments
+pub mod Summaries
 pub mod Step
 pub mod Settled
 pub mod ExchangeSettled

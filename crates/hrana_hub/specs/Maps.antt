@@ -38,6 +38,11 @@ abbrev pub those_left : {A : Type 0} → (A → Option A) → Numbered A → Num
 those_left f [] = []
 those_left f (entry ∷ entries) = and_left entry.0 (f entry.1) (those_left f entries)
 
+-- the lowest number
+abbrev pub first_number : {A : Type 0} → Numbered A → Option ℕ
+first_number [] = None
+first_number (entry ∷ entries) = Some entry.0
+
 -- the first whose number is within a bound, and which passes a test
 abbrev pub first_that : {A : Type 0} → (ℕ → Bool) → (A → Bool) → Numbered A → Option ℕ
 first_that within test [] = None

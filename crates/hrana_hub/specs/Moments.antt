@@ -23,9 +23,13 @@ is_begun (Reading unit had) = true
 is_begun (Writing unit) = true
 is_begun state = false
 
--- It holds a transaction, or is a stream of exchanges; it has nothing to do, and its last answer is so old.
+-- it holds a transaction, or is a stream of exchanges, and has nothing to do
+abbrev pub may_expire : Stream → Bool
+may_expire x = (of_exchanges x || is_begun x.task.session.state) && not (is_waiting x.task.asks)
+
+-- and its last answer is so old
 abbrev pub is_due : ℕ → Stream → Bool
-is_due now x = (of_exchanges x || is_begun x.task.session.state) && not (is_waiting x.task.asks) && nat_le EXPIRY_MS (now - x.last_answer)
+is_due now x = may_expire x && nat_le EXPIRY_MS (now - x.last_answer)
 
 -- a stream of a connection is dead then, and does no more than answer
 abbrev pub expired : Stream → Stream

@@ -14,7 +14,7 @@ ghost use Rattle.stream_task.specs.Checks.{stored_text};
 
 use crate::hub::Hub;
 use crate::outs::{answers, not_welcome, nothing, refuses, welcomes};
-use crate::slot::{Slot, add_slot, ask_slot, drop_slot};
+use crate::slot::Slot;
 use crate::texts::put_ask;
 use hrana_stmt::Code;
 use hrana_value::{Decline, NoMemory, StreamNo, Txt};
@@ -70,9 +70,9 @@ impl Hub {
         let number = self.opened + 1;
         self.turns.reserve_stream(StreamNo(number))?;
         let slot = Slot::new(self.alloc, self.moment, conn, number)?;
-        add_slot(&mut self.slots, number, slot)?;
+        self.streams.add(number, slot)?;
         if self.conns.join(conn, id, number).is_err() {
-            drop_slot(&mut self.slots, number);
+            let _slot = self.streams.remove(number);
             return Err(NoMemory);
         }
         self.opened = number;
@@ -113,7 +113,7 @@ impl Hub {
         ensures err { OnErr result (self.new ≡ self.old) }
     {
         let closes = is_close(&ask);
-        ask_slot(&mut self.slots, number, request_id, ask)?;
+        self.streams.ask(number, request_id, ask)?;
         self.conns.wait(conn, stream, closes);
         Ok(())
     }
@@ -157,7 +157,7 @@ impl Hub {
         let Some(number) = self.named(conn, stream) else {
             return self.unopened(conn, request_id, &ask);
         };
-        if !self.slots.contains_key(&number) {
+        if !self.streams.contains(number) {
             return self.unopened(conn, request_id, &ask);
         }
         let Some(ask) = self.put_ask(conn, ask)? else {

@@ -1,7 +1,7 @@
 // The calls of the hub beside `step`. None takes memory.
 ghost use Rattle.std.specs.Prelude.{◌≡◌, ◌≤◌, MatchOption, is_some, [], ◌∷◌, drop, Option, None, Some};
 ghost use Rattle.txn_table.specs.Turns.{first_waiter};
-ghost use Rattle.hrana_hub.specs.Calls.{has_room_for, is_known, is_heard, is_ready, first_ready};
+ghost use Rattle.hrana_hub.specs.Calls.{has_room_for, is_known, is_heard, first_ready};
 ghost use Rattle.hrana_hub.specs.Maps.{at};
 ghost use Rattle.hrana_hub.specs.State.{with_state};
 ghost use Rattle.hrana_hub.specs.Step.{fits, may_come, may_open, may_send, is_free};
@@ -9,10 +9,8 @@ ghost use Rattle.hrana_hub.specs.Step.{fits, may_come, may_open, may_send, is_fr
 use crate::events::Event;
 use crate::hub::Hub;
 use crate::limits::{MAX_CONNECTIONS, MAX_EVENTS};
-use crate::slot::Slot;
 use engine_core::Entry;
 use hrana_value::StreamNo;
-use std::collections::Bound;
 
 impl Hub {
     fn may_send(&self, conn: u32) -> bool
@@ -85,29 +83,17 @@ impl Hub {
     pub(crate) fn hears(&self, conn: u32) -> bool
         ensures { result ≡ is_heard (at conn self.now.state.conns) }
     {
-        match self.conns.get(conn) {
-            Some(known) => !known.is_closing(),
-            None => false,
-        }
-    }
-
-    /// Whether the stream has something to do, and is of exchanges, or its connection isn't closing.
-    fn is_ready(&self, slot: &Slot) -> bool
-        ensures { result ≡ is_ready self.now.state.conns slot.now }
-    {
-        slot.is_waiting() && (slot.of_exchanges() || self.hears(slot.conn()))
+        self.conns.hear(conn)
     }
 
     /// The lowest stream above this number that has something to do, and whose connection isn't closing.
     pub fn next_ready(&self, after: u64) -> Option<StreamNo>
         ensures { MatchOption result (first_ready after self.now.state.conns self.now.state.streams ≡ None) (λ stream. first_ready after self.now.state.conns self.now.state.streams ≡ Some stream.0) }
     {
-        for (number, slot) in self.slots.range((Bound::Excluded(after), Bound::Unbounded)) {
-            if self.is_ready(slot) {
-                return Some(StreamNo(*number));
-            }
+        match self.streams.next_ready(after, &self.conns) {
+            Some(number) => Some(StreamNo(number)),
+            None => None,
         }
-        None
     }
 
     /// The stream that has waited longest for the turn, where nobody holds it.

@@ -2,6 +2,7 @@
 ghost use Rattle.std.specs.Prelude.{◌≡◌, ◌<◌, ◌≤◌, ◌^◌, ◌-◌, ◌∷◌, ◌++◌, [], IfOk, OnOk, OnErr, MatchOption, Option, None, Some, length};
 ghost use Rattle.stream_requests.specs.declared.replies.Reply.{Reply};
 ghost use Rattle.hrana_hub.specs.Arrivals.{greeted, shut, joined, waited, with_texts};
+ghost use Rattle.hrana_hub.specs.Calls.{is_heard};
 ghost use Rattle.hrana_hub.specs.Lending.{LendsKnown, LendsConnection};
 ghost use Rattle.hrana_hub.specs.Maps.{at, put, placed, without, id_at, IsPlaceOf, IsSearched};
 ghost use Rattle.std.specs.Borrow.{sem};
@@ -75,6 +76,16 @@ impl Connections {
         match self.place(conn) {
             Ok(place) => Some(&self.items[place].1),
             Err(_) => None,
+        }
+    }
+
+    /// Whether the connection is known and isn't closing.
+    pub(crate) fn hear(&self, conn: u32) -> bool
+        ensures { result ≡ is_heard (at conn self.now) }
+    {
+        match self.get(conn) {
+            Some(known) => !known.is_closing(),
+            None => false,
         }
     }
 

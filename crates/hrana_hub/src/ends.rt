@@ -32,7 +32,7 @@ impl Hub {
         streams_agree::<E>();
         ends_keep_agreement::<E>();
         ends_lead_on::<E>();
-        if let Some(slot) = self.slots.remove(&stream) {
+        if let Some(slot) = self.streams.remove(stream) {
             forget_session(&mut self.store, &slot, stream);
             slot.end(engine, &mut self.turns, &mut self.entries, why);
         }
@@ -47,12 +47,8 @@ impl Hub {
         ensures token { self.new.token ≡ self.old.token }
         ensures later { E.faults engine.old ≤ E.faults engine.new }
     {
-        streams_agree::<E>();
-        ends_keep_agreement::<E>();
-        ends_lead_on::<E>();
-        if let Some((number, slot)) = self.slots.pop_first() {
-            forget_session(&mut self.store, &slot, number);
-            slot.end(engine, &mut self.turns, &mut self.entries, why);
+        if let Some(stream) = self.streams.first() {
+            self.end_stream(engine, stream, why);
         }
     }
 
@@ -79,7 +75,7 @@ impl Hub {
         ensures token { self.new.token ≡ self.old.token }
         ensures later { E.faults engine.old ≤ E.faults engine.new }
     {
-        for _ in 0..self.slots.len() {
+        for _ in 0..self.streams.len() {
             self.end_first(engine, why);
         }
     }

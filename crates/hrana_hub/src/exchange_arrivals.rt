@@ -12,7 +12,7 @@ ghost use Rattle.stream_task.specs.Together.{numbered};
 ghost use Rattle.hrana_hub.specs.Arrivals.{IsAfter};
 ghost use Rattle.hrana_hub.specs.Askers.{asks_these};
 ghost use Rattle.hrana_hub.specs.Drawn.{DrawsFrom};
-ghost use Rattle.hrana_hub.specs.Exchanges.{works_of, sessions_in, in_session, with_exchange, IsHeard};
+ghost use Rattle.hrana_hub.specs.Exchanges.{works_of, in_session, with_exchange, IsHeard};
 ghost use Rattle.hrana_hub.specs.ExchangeArrived.{IsReadyFor, IsPreparedFor, Started, HasSession, StoreFits, Entered, GoesOr, GoesPrepared, answer_by};
 ghost use Rattle.hrana_hub.specs.Maps.{at, put, without};
 ghost use Rattle.hrana_hub.specs.Polled.{with_streams};
@@ -26,7 +26,7 @@ use crate::hub::Hub;
 use crate::limits::MAX_SESSIONS;
 use crate::outs::{answers_with, nothing, without_memory};
 use crate::sessions::Running;
-use crate::slot::{Slot, add_slot, drop_slot};
+use crate::slot::Slot;
 use baton_store::Redeem;
 use engine_core::Tokens;
 use hrana_stmt::Code;
@@ -88,21 +88,11 @@ fn make_ready(
 }
 
 impl Hub {
-    /// How many streams of exchanges there are.
-    fn sessions(&self) -> usize
-        ensures { result ≡ sessions_in self.now.state.streams }
-    {
-        self.slots
-            .values()
-            .filter(|slot| slot.of_exchanges())
-            .count()
-    }
-
     fn run_slot(&mut self, stream: u64, running: Running, queued: Queued)
         ensures { (x : Stream) → at stream self.old.state.streams ≡ Some x
             → self.new ≡ with_state (with_streams (put stream (in_session (Session.Running running) (asks_these queued x)) self.old.state.streams) self.old.state) self.old }
     {
-        if let Some(slot) = self.slots.get_mut(&stream) {
+        if let Some(slot) = self.streams.get_mut(stream) {
             slot.run(running, queued);
         }
     }
@@ -153,9 +143,9 @@ impl Hub {
     {
         self.turns.reserve_stream(StreamNo(number))?;
         let slot = Slot::new_session(self.alloc, self.moment, conn, number)?;
-        add_slot(&mut self.slots, number, slot)?;
+        self.streams.add(number, slot)?;
         if self.store.reserve_stream(StreamNo(number)).is_err() {
-            drop_slot(&mut self.slots, number);
+            let _slot = self.streams.remove(number);
             return Err(NoMemory);
         }
         Ok(())
@@ -165,7 +155,7 @@ impl Hub {
     fn drop_session(&mut self, number: u64)
         ensures { self.new ≡ record (with_state (with_streams (without number self.old.state.streams) self.old.state) self.old) { store = without_session self.old.store (numbered number) } }
     {
-        drop_slot(&mut self.slots, number);
+        let _slot = self.streams.remove(number);
         self.store.forget(StreamNo(number));
     }
 
@@ -192,7 +182,7 @@ impl Hub {
             ready,
             no_token,
         } = prepared;
-        if MAX_SESSIONS <= self.sessions() {
+        if MAX_SESSIONS <= self.streams.sessions() {
             let full = error_answer(self.alloc, 503, Code::TooManyStreams, close)?;
             return Ok(answers_with(conn, by_draw(tokens, full, no_token)));
         }

@@ -37,7 +37,7 @@ impl Hub {
         ensures { (x : Stream) → at stream self.old.state.streams ≡ Some x → self.new ≡ with_state (with_streams (put stream (given_up self.old.state.now x) self.old.state.streams) self.old.state) self.old }
     {
         let now = self.moment;
-        if let Some(slot) = self.slots.get_mut(&stream) {
+        if let Some(slot) = self.streams.get_mut(stream) {
             slot.give_up(now);
         }
     }
@@ -58,7 +58,7 @@ impl Hub {
         ensures { (x : Stream) → at stream self.old.state.streams ≡ Some x → self.new ≡ with_state (with_streams (put stream (rested text self.old.state.now x) self.old.state.streams) self.old.state) self.old }
     {
         let now = self.moment;
-        if let Some(slot) = self.slots.get_mut(&stream) {
+        if let Some(slot) = self.streams.get_mut(stream) {
             slot.hand_out(now, text);
         }
     }
@@ -93,7 +93,7 @@ impl Hub {
         ensures hub { (x : Stream) (e : Exchange) → IsRunning self.old.state stream x e
             → self.new ≡ with_state (with_streams (put stream (in_session (Session.Resting None) x) self.old.state.streams) self.old.state) self.old }
     {
-        match self.slots.get_mut(&stream) {
+        match self.streams.get_mut(stream) {
             Some(slot) => slot.take_running(),
             None => None,
         }
@@ -103,7 +103,7 @@ impl Hub {
     fn run_on(&mut self, stream: u64, running: Running)
         ensures { (x : Stream) → at stream self.old.state.streams ≡ Some x → self.new ≡ with_state (with_streams (put stream (in_session (Session.Running running) x) self.old.state.streams) self.old.state) self.old }
     {
-        if let Some(slot) = self.slots.get_mut(&stream) {
+        if let Some(slot) = self.streams.get_mut(stream) {
             slot.run_on(running);
         }
     }
@@ -111,7 +111,7 @@ impl Hub {
     fn is_shut(&self, stream: u64) -> bool
         ensures { (x : Stream) → at stream self.now.state.streams ≡ Some x → result ≡ is_shut x.task.session.state }
     {
-        match self.slots.get(&stream) {
+        match self.streams.get(stream) {
             Some(slot) => slot.is_shut(),
             None => false,
         }

@@ -10,13 +10,12 @@ ghost use Rattle.hrana_hub.specs.Step.{Step, Happens, fits, counted};
 
 use crate::connections::Connections;
 use crate::exchanges::Exchanges;
-use crate::slot::Slot;
+use crate::streams::Streams;
 use baton_store::BatonStore;
 use engine_core::Entries;
 use hrana_value::{NoMemory, Txt};
 use http_wire::{Out, Outs};
 use std::alloc::Global;
-use std::collections::BTreeMap;
 use std::marker::Model;
 use txn_table::TxnTable;
 
@@ -26,7 +25,7 @@ pub struct Hub {
     pub(crate) alloc: Global,
     pub(crate) token: Option<Txt>,
     pub(crate) conns: Connections,
-    pub(crate) slots: BTreeMap<u64, Slot>,
+    pub(crate) streams: Streams,
     pub(crate) exchanges: Exchanges,
     /// How many batons were issued.
     pub(crate) issued: u64,
@@ -50,7 +49,7 @@ impl Model for Hub {
 
     ghost coded = { Prim.hlevel (codes, conditions.the_row.coded) };
 
-    ghost view = { λ h. record { token = h.token; state = record { conns = h.conns; streams = h.slots.entries; exchanges = h.exchanges; issued = h.issued; opened = h.opened; next = h.entries.next; version = h.turns.version; events = h.events; now = h.moment; stopped = h.stopped }; turns = h.turns; store = h.store; noted = h.entries } };
+    ghost view = { λ h. record { token = h.token; state = record { conns = h.conns; streams = h.streams; exchanges = h.exchanges; issued = h.issued; opened = h.opened; next = h.entries.next; version = h.turns.version; events = h.events; now = h.moment; stopped = h.stopped }; turns = h.turns; store = h.store; noted = h.entries } };
 }
 
 impl Hub {
@@ -62,7 +61,7 @@ impl Hub {
             alloc,
             token,
             conns: Connections::new(alloc)?,
-            slots: BTreeMap::new(alloc),
+            streams: Streams::new(alloc),
             exchanges: Exchanges::new(alloc)?,
             issued: 0,
             opened: 0,

@@ -50,6 +50,7 @@ pub fn runs_have_versions()
 pub fn exchanges_are_answered_in_order()
     ensures { AnswersInOrder }
 {
+    no_bytes_have_two_body_readings();
     replies_stand_in_order();
     each_request_has_its_result();
     asks_of_bodies_fit();

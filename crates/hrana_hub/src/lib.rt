@@ -20,6 +20,7 @@ mod polls;
 mod sessions;
 mod slot;
 mod step;
+mod streams;
 mod texts;
 
 pub use agreement::{

@@ -6,7 +6,7 @@ ghost use Rattle.hrana_hub.specs.Adds.{Adds};
 ghost use Rattle.hrana_hub.specs.Agrees.{HubAgrees};
 ghost use Rattle.hrana_hub.specs.Ended.{end_of, HasLeft};
 ghost use Rattle.hrana_hub.specs.Maps.{at, put, left_at, those_left};
-ghost use Rattle.hrana_hub.specs.Moments.{expired, left_of, after, first_due, expiries, Expire, MomentFrees};
+ghost use Rattle.hrana_hub.specs.Moments.{expired, left_of, after, expiries, Expire, MomentFrees};
 ghost use Rattle.hrana_hub.specs.Polled.{with_streams};
 ghost use Rattle.hrana_hub.specs.State.{Stream, of_exchanges};
 ghost use Rattle.hrana_hub.specs.Step.{MomentAt};
@@ -15,22 +15,9 @@ use crate::hub::Hub;
 use crate::outs::nothing;
 use engine_core::{Engine, Undo};
 use http_wire::Outs;
-use std::collections::Bound;
 use stream_task::{ends_keep_agreement, ends_lead_on, streams_agree};
 
 impl Hub {
-    /// The first stream from this number on that is due at the moment.
-    fn next_due(&self, from: u64, moment: u64) -> Option<u64>
-        ensures { result ≡ first_due moment from self.now.state.streams }
-    {
-        for (number, slot) in self.slots.range((Bound::Included(from), Bound::Unbounded)) {
-            if slot.is_due(moment) {
-                return Some(*number);
-            }
-        }
-        None
-    }
-
     /// The stream of a connection expires: it is dead. It holds no turn then, and waits for none.
     fn deaden<E: Engine>(&mut self, engine: &mut E, stream: u64)
         requires { HubAgrees E.told E.SHARED (E.db engine.old) (E.live engine.old) self.old }
@@ -45,7 +32,7 @@ impl Hub {
         streams_agree::<E>();
         ends_keep_agreement::<E>();
         ends_lead_on::<E>();
-        if let Some(slot) = self.slots.get_mut(&stream) {
+        if let Some(slot) = self.streams.get_mut(stream) {
             slot.expire(engine, &mut self.turns, &mut self.entries);
         }
     }
@@ -53,7 +40,7 @@ impl Hub {
     fn is_session(&self, stream: u64) -> bool
         ensures { (x : Stream) → at stream self.now.state.streams ≡ Some x → result ≡ of_exchanges x }
     {
-        match self.slots.get(&stream) {
+        match self.streams.get(stream) {
             Some(slot) => slot.of_exchanges(),
             None => false,
         }
@@ -88,7 +75,7 @@ impl Hub {
         ensures later { E.faults engine.old ≤ E.faults engine.new }
     {
         let mut from: u64 = 0;
-        while let Some(stream) = self.next_due(from, moment) {
+        while let Some(stream) = self.streams.next_due(from, moment) {
             self.expire(engine, stream);
             from = stream;
         }
@@ -107,6 +94,7 @@ impl Hub {
             return nothing();
         }
         self.expire_due(engine, moment);
+        self.streams.look_ahead(moment);
         self.moment = moment;
         nothing()
     }

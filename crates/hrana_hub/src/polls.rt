@@ -25,7 +25,7 @@ impl Hub {
         ensures rest { OnlyPlaces self.old self.new }
         ensures places { OnOk result (length self.old.state.streams + 2 ≤ self.new.noted.spare) }
     {
-        let Some(places) = self.slots.len().checked_add(2) else {
+        let Some(places) = self.streams.len().checked_add(2) else {
             return Err(NoMemory);
         };
         self.entries.reserve(places)
@@ -45,7 +45,7 @@ impl Hub {
         streams_agree::<E>();
         polls_keep_agreement::<E>();
         polls_lead_on::<E>();
-        match self.slots.get_mut(&stream) {
+        match self.streams.get_mut(stream) {
             Some(slot) => slot.poll(engine, &mut self.turns, &mut self.entries),
             None => Poll::Ready(Stepped::Idle),
         }
@@ -55,7 +55,7 @@ impl Hub {
     fn drop_asks(&mut self, stream: u64)
         ensures { (x : Stream) → at stream self.old.state.streams ≡ Some x → self.new ≡ with_state (with_streams (put stream (dropped x.task x) self.old.state.streams) self.old.state) self.old }
     {
-        if let Some(slot) = self.slots.get_mut(&stream) {
+        if let Some(slot) = self.streams.get_mut(stream) {
             slot.drop_asks();
         }
     }
@@ -77,7 +77,7 @@ impl Hub {
             → self.new ≡ with_state (with_streams (put stream (passed self.old.state.now x) self.old.state.streams) self.old.state) self.old }
     {
         let now = self.moment;
-        match self.slots.get_mut(&stream) {
+        match self.streams.get_mut(stream) {
             Some(slot) => {
                 slot.answered(now);
                 slot.is_closed()
@@ -100,7 +100,7 @@ impl Hub {
     fn first_id(&self, stream: u64) -> i32
         ensures { (x : Stream) → at stream self.now.state.streams ≡ Some x → result ≡ first_id x.waits }
     {
-        match self.slots.get(&stream) {
+        match self.streams.get(stream) {
             Some(slot) => slot.first_id(),
             None => 0,
         }
@@ -232,7 +232,7 @@ impl Hub {
         ensures token { self.new.token ≡ self.old.token }
         ensures later { E.faults engine.old ≤ E.faults engine.new }
     {
-        let Some(slot) = self.slots.get(&stream.0) else {
+        let Some(slot) = self.streams.get(stream.0) else {
             return nothing();
         };
         if !slot.is_waiting() {

@@ -7,23 +7,25 @@ ghost use Rattle.stream_task.specs.Polls.{is_waiting};
 ghost use Rattle.stream_task.specs.Together.{MayPoll, HasPolled, HasEnded};
 ghost use Rattle.hrana_hub.specs.Agrees.{forgets};
 ghost use Rattle.hrana_hub.specs.Arrivals.{fresh, waiting};
-ghost use Rattle.hrana_hub.specs.Maps.{at, put, placed, without};
-ghost use Rattle.hrana_hub.specs.Moments.{is_begun, is_due, expired};
+ghost use Rattle.hrana_hub.specs.Calls.{is_ready};
+ghost use Rattle.hrana_hub.specs.Moments.{is_begun, may_expire, is_due, expired};
 ghost use Rattle.hrana_hub.specs.Askers.{asker_of, running_of, asks_these};
 ghost use Rattle.hrana_hub.specs.Exchanges.{fresh_session, in_session};
 ghost use Rattle.hrana_hub.specs.ExchangeSettled.{given_up, rested};
 ghost use Rattle.hrana_hub.specs.Polled.{first_id, dropped, is_closed, passed, with_task};
-ghost use Rattle.hrana_hub.specs.State.{Stream, of_exchanges};
+ghost use Rattle.hrana_hub.specs.State.{of_exchanges};
+ghost use Rattle.hrana_hub.specs.Summaries.{IsCalm};
 ghost use Rattle.hrana_hub.specs.declared.sessions.Running.{Running};
 ghost use Rattle.hrana_hub.specs.declared.sessions.Session.{Session};
 
+use crate::connections::Connections;
 use crate::limits::EXPIRY_MS;
 use crate::sessions::{Issued, Running, Session};
 use baton_store::BatonStore;
 use engine_core::{Engine, Entries, Undo};
 use hrana_value::{NoMemory, StreamNo};
 use std::alloc::Global;
-use std::collections::{BTreeMap, VecDeque};
+use std::collections::VecDeque;
 use std::marker::Model;
 use stream_requests::Ask;
 use stream_task::{Poll, Queued, Stepped, StreamTask, Task, TxnState};
@@ -63,51 +65,12 @@ impl Model for Slot {
     ghost view = { λ x. record { conn = x.conn; waits = x.waits.items; last_answer = x.last_answer; session = x.session; task = x.task } };
 }
 
-/// One more stream. Where there is no memory nothing changes.
-pub(crate) fn add_slot(
-    slots: &mut BTreeMap<u64, Slot>,
-    number: u64,
-    slot: Slot,
-) -> Result<(), NoMemory>
-    ensures ok { OnOk result (slots.new.entries ≡ placed number slot slots.old.entries) }
-    ensures err { OnErr result (slots.new.entries ≡ slots.old.entries) }
-{
-    match slots.insert(number, slot) {
-        Ok(_) => Ok(()),
-        Err(_) => Err(NoMemory),
-    }
-}
-
-/// Lets go of a stream.
-pub(crate) fn drop_slot(slots: &mut BTreeMap<u64, Slot>, number: u64)
-    ensures { slots.new.entries ≡ without number slots.old.entries }
-{
-    let _slot = slots.remove(&number);
-}
-
 /// The store lets go of the place and the baton of a stream, where it is one of exchanges.
 pub(crate) fn forget_session(store: &mut BatonStore, slot: &Slot, number: u64)
     ensures { store.new ≡ forgets slot.now number store.old }
 {
     if slot.of_exchanges() {
         store.forget(StreamNo(number));
-    }
-}
-
-/// Asks a stream one thing more, where there is one of this number. Where there is no memory nothing changes.
-pub(crate) fn ask_slot(
-    slots: &mut BTreeMap<u64, Slot>,
-    number: u64,
-    request_id: i32,
-    ask: Ask,
-) -> Result<(), NoMemory>
-    requires { MayBeAsked ask }
-    ensures ok { OnOk result ((x : Stream) → at number slots.old.entries ≡ Some x → slots.new.entries ≡ put number (waiting request_id ask x) slots.old.entries) }
-    ensures err { OnErr result (slots.new.entries ≡ slots.old.entries) }
-{
-    match slots.get_mut(&number) {
-        Some(slot) => slot.ask(request_id, ask),
-        None => Ok(()),
     }
 }
 
@@ -343,13 +306,35 @@ impl Slot {
         self.task.end(engine, turns, entries, why);
     }
 
-    /// Whether it holds a transaction or is of exchanges, has nothing to do, and gave its last answer long enough ago to expire.
+    /// Whether it expires unless it gives an answer: it holds a transaction or is of exchanges, and has nothing to do.
+    fn may_expire(&self) -> bool
+        ensures { result ≡ may_expire self.now }
+    {
+        (self.of_exchanges() || is_begun(self.task.state())) && !self.task.ready()
+    }
+
+    /// Whether it may expire, and gave its last answer long enough ago.
     pub(crate) fn is_due(&self, now: u64) -> bool
         ensures { result ≡ is_due now self.now }
     {
-        (self.of_exchanges() || is_begun(self.task.state()))
-            && !self.task.ready()
-            && now.saturating_sub(self.last_answer) >= EXPIRY_MS
+        self.may_expire() && now.saturating_sub(self.last_answer) >= EXPIRY_MS
+    }
+
+    /// It isn't due before this moment.
+    pub(crate) fn calm_until(&self) -> u64
+        ensures { IsCalm result self.now }
+    {
+        if self.may_expire() {
+            return self.last_answer.saturating_add(EXPIRY_MS);
+        }
+        u64::MAX
+    }
+
+    /// Whether it has something to do, and is of exchanges or of a connection that is heard.
+    pub(crate) fn is_ready(&self, conns: &Connections) -> bool
+        ensures { result ≡ is_ready conns.now self.now }
+    {
+        self.is_waiting() && (self.of_exchanges() || conns.hear(self.conn))
     }
 
     /// It expires: its open unit is taken back, and it is dead from now on.

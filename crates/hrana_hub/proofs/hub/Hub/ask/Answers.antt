@@ -21,17 +21,17 @@ returns-in_default c = λ k known.
     (asks_none (id_at c.args.stream k.ids) c.args.conn k c.args.stream c.args.request_id c.args.ask old.state none)
     (unopened_arrives c.args.conn c.args.request_id c.args.ask old c.unopened.result (simp to_z-of_z at c.unopened.ensures))
 
-pub returns-then-not-contains_key : goal.returns-then-not-contains_key
-returns-then-not-contains_key c = λ k known.
+pub returns-then-not-contains : goal.returns-then-not-contains
+returns-then-not-contains c = λ k known.
     let old = c.args.self.now in
     let n = c.in-Some.number in
     let its = c.ranges.request_id in
     let fits = c.ranges.stream in
     let is : id_at c.args.stream k.ids ≡ Some n = sym (simp to_z-of_z at (c.named.ensures k known)) ∙ c.in-Some.is in
-    let unknown : at n old.state.streams ≡ None = ap (λ (s : Seen). at n s.state.streams) (sym c.self.view_is) ∙ none_at (at n c.self.inside.slots.entries) (sym c.if-not-contains_key.ensures) in
-    arrives_as (unopened c.args.conn c.args.request_id c.args.ask old.state) (asks (id_at c.args.stream k.ids) c.args.conn k c.args.stream c.args.request_id c.args.ask old.state) c.unopened-then-not-contains_key.result old old
+    let unknown : at n old.state.streams ≡ None = ap (λ (s : Seen). at n s.state.streams) (sym c.self.view_is) ∙ none_at (at n c.self.inside.streams) (sym c.if-not-contains.ensures) in
+    arrives_as (unopened c.args.conn c.args.request_id c.args.ask old.state) (asks (id_at c.args.stream k.ids) c.args.conn k c.args.stream c.args.request_id c.args.ask old.state) c.unopened-then-not-contains.result old old
     (asks_unknown (id_at c.args.stream k.ids) n c.args.conn k c.args.stream c.args.request_id c.args.ask old.state is unknown)
-    (unopened_arrives c.args.conn c.args.request_id c.args.ask old c.unopened-then-not-contains_key.result (simp to_z-of_z at c.unopened-then-not-contains_key.ensures))
+    (unopened_arrives c.args.conn c.args.request_id c.args.ask old c.unopened-then-not-contains.result (simp to_z-of_z at c.unopened-then-not-contains.ensures))
 
 pub returns-in_default-2 : goal.returns-in_default-2
 returns-in_default-2 c = λ k known.
@@ -40,7 +40,7 @@ returns-in_default-2 c = λ k known.
     let its = c.ranges.request_id in
     let fits = c.ranges.stream in
     let is : id_at c.args.stream k.ids ≡ Some n = sym (simp to_z-of_z at (c.named.ensures k known)) ∙ c.in-Some.is in
-    let x = some_at (at n c.self.inside.slots.entries) (sym c.if-not-contains_key.ensures) in
+    let x = some_at (at n c.self.inside.streams) (sym c.if-not-contains.ensures) in
     let there : at n old.state.streams ≡ Some x.0 = ap (λ (s : Seen). at n s.state.streams) (sym c.self.view_is) ∙ x.1 in
     let put : put_ask k.texts c.args.ask ≡ None = sym (c.in_ok-ask.ensures.put k known) ∙ c.in_default-2.is in
     arrives_as (saying c.args.conn (refusal c.args.request_id code.NoSqlId) old.state) (asks (id_at c.args.stream k.ids) c.args.conn k c.args.stream c.args.request_id c.args.ask old.state) c.refuses.result old old
@@ -57,7 +57,7 @@ returns c = λ k known.
     let its = c.ranges.request_id in
     let fits = c.ranges.stream in
     let is : id_at c.args.stream k.ids ≡ Some n = sym (simp to_z-of_z at (c.named.ensures k known)) ∙ c.in-Some.is in
-    let x = some_at (at n c.self.inside.slots.entries) (sym c.if-not-contains_key.ensures) in
+    let x = some_at (at n c.self.inside.streams) (sym c.if-not-contains.ensures) in
     let there : at n old.state.streams ≡ Some x.0 = ap (λ (s : Seen). at n s.state.streams) (sym c.self.view_is) ∙ x.1 in
     let put : put_ask k.texts c.args.ask ≡ Some c.in-Some-2.ask = sym (c.in_ok-ask.ensures.put k known) ∙ c.in-Some-2.is in
     let s = with_request c.args.conn k c.args.stream n x.0 c.args.request_id c.in-Some-2.ask old.state in

@@ -1,4 +1,4 @@
-use Rattle.std.proofs.Common.{◌≡◌, ◌∙◌, Result, List, ℕ, nat_le, false, refl, sym, ap, subst}
+use Rattle.std.proofs.Common.{◌≡◌, Result, List, ℕ, nat_le, false, refl, sym, subst}
 use Rattle.engine_core.specs.Draws.{draw_of, words}
 use Rattle.engine_core.specs.declared.outside.Failed.{Failed}
 use Rattle.pipeline_body.specs.Exchanges.{begins, asked_in}
@@ -52,7 +52,7 @@ returns-clause-drawn g c =
     let mid = the_view c.self-2.inside in
     let made = is_made p.conn old c.args.self.now mid c.make_session.new.self c.self.view_is c.self-2.view_is c.requires.fresh c.requires.store c.in_ok-make_session.ensures.ok in
     let few : nat_le MAX_SESSIONS (sessions_in old.state.streams) ≡ false =
-    few_sessions c.sessions.result (sessions_in old.state.streams) (c.sessions.ensures ∙ ap (λ (h : Seen). sessions_in h.state.streams) (sym c.self.view_is)) c.if-sessions-ge-MAX_SESSIONS.false in
+    few_sessions c.sessions.result (sessions_in old.state.streams) c.sessions.ensures c.if-sessions-ge-MAX_SESSIONS.false in
     draws_one _ _ _ _ _ c.words.result c.words.ensures.draw c.words.ensures.cause (λ body ready none. record {
       draw = draw_of c.words.result;
       one = refl;

@@ -1,4 +1,4 @@
-use Rattle.std.proofs.Common.{◌≡◌, ◌∙◌, Some, refl, sym, ap, subst, rules}
+use Rattle.std.proofs.Common.{◌≡◌, ◌∙◌, Some, refl, sym, ap, subst}
 use Rattle.txn_table.specs.Turns.{has}
 use Rattle.stream_task.specs.Together.{numbered}
 use Rattle.hrana_hub.specs.Maps.{at, put}
@@ -20,13 +20,13 @@ use Rattle.hrana_hub.proofs.hub.Hub.deaden.Given as given
 use Rattle.hrana_hub.proofs.hub.Hub.deaden.Goals as goal
 
 abbrev after : (g : given.Over) → goal.After-self-in-Some-1 g → Seen
-after g c = the_view (record { alloc = c.self.inside.alloc; token = c.self.inside.token; conns = c.self.inside.conns; slots = c.get_mut.follows.lender c.expire.new.self; exchanges = c.self.inside.exchanges; issued = c.self.inside.issued; opened = c.self.inside.opened; events = c.self.inside.events; moment = c.self.inside.moment; stopped = c.self.inside.stopped; turns = c.expire.new.turns; store = c.self.inside.store; entries = c.expire.new.entries })
+after g c = the_view (record { alloc = c.self.inside.alloc; token = c.self.inside.token; conns = c.self.inside.conns; streams = put c.args.stream c.expire.new.self c.self.inside.streams; exchanges = c.self.inside.exchanges; issued = c.self.inside.issued; opened = c.self.inside.opened; events = c.self.inside.events; moment = c.self.inside.moment; stopped = c.self.inside.stopped; turns = c.expire.new.turns; store = c.self.inside.store; entries = c.expire.new.entries })
 
 did : (g : given.Over) (c : goal.After-self-in-Some-1 g) → EndDid g.E.Engine.told g.E.Engine.SHARED g.E.Engine.meaning g.E.Engine.db g.E.Engine.live g.E.Engine.faults c.args.engine.now c.expire.new.engine Expired c.args.stream c.in-Some.slot.now (Some (expired c.in-Some.slot.now).task.session.state) (the_view c.self.inside) (after g c)
 did g c =
     let agrees = subst (λ h. HubAgrees g.E.Engine.told g.E.Engine.SHARED (g.E.Engine.db c.args.engine.now) (g.E.Engine.live c.args.engine.now) h) (sym c.self.view_is) c.requires in
     let known = sym c.in-Some.ensures.value in
-    let streams = (c.get_mut.follows.holds c.expire.new.self).0 ∙ ap (λ x. put c.args.stream x c.self.inside.slots.entries) c.expire.ensures.slot in
+    let streams = ap (λ x. put c.args.stream x c.self.inside.streams) c.expire.ensures.slot in
     let dead = dead_of c.args.stream c.in-Some.slot.now (the_view c.self.inside).state (after g c).state agrees.numbers known streams refl in
     record {
       agrees = agrees;
@@ -45,7 +45,7 @@ did g c =
       issued = refl;
       stopped = refl;
       store_issued = refl;
-      ties = λ t. subst (λ es. IsTied es c.self.inside.store) (sym streams) (tied_put c.args.stream c.in-Some.slot.now (expired c.in-Some.slot.now) c.self.inside.slots.entries c.self.inside.store known refl t);
+      ties = λ t. subst (λ es. IsTied es c.self.inside.store) (sym streams) (tied_put c.args.stream c.in-Some.slot.now (expired c.in-Some.slot.now) c.self.inside.streams c.self.inside.store known refl t);
     }
 
 pub expire-requires-clause-may : goal.expire-requires-clause-may
@@ -72,14 +72,13 @@ pub returns-in-Some-clause-state : goal.returns-in-Some-clause-state
 returns-in-Some-clause-state g c = λ x known.
     let old = the_view c.self.inside in
     let same : c.in-Some.slot.now ≡ x = some_one (c.in-Some.ensures.value ∙ (ap (λ (h : Seen). at c.args.stream h.state.streams) c.self.view_is ∙ known)) in
-    let streams = (c.get_mut.follows.holds c.expire.new.self).0 ∙ ap (λ y. put c.args.stream y c.self.inside.slots.entries) (c.expire.ensures.slot ∙ ap expired same) in
+    let streams = ap (λ y. put c.args.stream y c.self.inside.streams) (c.expire.ensures.slot ∙ ap expired same) in
     subst (λ (h : Seen). (after g c).state ≡ with_streams (put c.args.stream (expired x) h.state.streams) h.state) c.self.view_is
     (state_is (after g c).state (with_streams (put c.args.stream (expired x) old.state.streams) old.state) refl streams refl refl refl (same_next _ _ _ _ _ _ _ _ _ _ _ _ _ _ (did g c)) (same_version _ _ _ _ _ _ _ _ _ _ _ _ _ _ (did g c)) refl refl refl)
 
 pub returns-in_default-clause-adds : goal.returns-in_default-clause-adds
 returns-in_default-clause-adds g c =
     let old = the_view c.self.inside in
-    let left : Seen = the_view (record { alloc = c.self.inside.alloc; token = c.self.inside.token; conns = c.self.inside.conns; slots = c.get_mut.follows.lender-at-none; exchanges = c.self.inside.exchanges; issued = c.self.inside.issued; opened = c.self.inside.opened; events = c.self.inside.events; moment = c.self.inside.moment; stopped = c.self.inside.stopped; turns = c.self.inside.turns; store = c.self.inside.store; entries = c.self.inside.entries }) in
-    let same : left.state.streams ≡ old.state.streams = search rules in
+    let left : Seen = the_view (record { alloc = c.self.inside.alloc; token = c.self.inside.token; conns = c.self.inside.conns; streams = c.self.inside.streams; exchanges = c.self.inside.exchanges; issued = c.self.inside.issued; opened = c.self.inside.opened; events = c.self.inside.events; moment = c.self.inside.moment; stopped = c.self.inside.stopped; turns = c.self.inside.turns; store = c.self.inside.store; entries = c.self.inside.entries }) in
     subst (λ h. Adds g.E.Engine.told g.E.Engine.SHARED g.E.Engine.meaning g.E.Engine.db g.E.Engine.live g.E.Engine.faults c.args.engine.now c.args.engine.now h left (λ added. added ≡ end_of Expired (at c.args.stream h.state.streams))) c.self.view_is
-    (adds_none c.args.engine.now old left _ refl (alike old left same refl refl) (sym (ap (end_of Expired) (sym c.in_default.ensures.value))))
+    (adds_none c.args.engine.now old left _ refl (alike old left refl refl refl) (sym (ap (end_of Expired) (sym c.in_default.ensures.value))))

@@ -1,7 +1,7 @@
 use Rattle.std.proofs.Common.{◌≡◌, ◌++◌, ◌∙◌, refl, sym, ap, subst, arith, append-nil}
 use Rattle.hrana_hub.specs.Maps.{left_at, those_left}
-use Rattle.hrana_hub.specs.Moments.{left_of, after, expiries}
-use Rattle.hrana_hub.specs.State.{State}
+use Rattle.hrana_hub.specs.Moments.{left_of, after, first_due, expiries}
+use Rattle.hrana_hub.specs.State.{State, Seen}
 use Rattle.hrana_hub.specs.Polled.{with_streams}
 use Rattle.hrana_hub.proofs.Adding.{alike, adds_none, adds_on, adds_as}
 use Rattle.hrana_hub.proofs.Expiring.{NoneBelow, due_count, found, found_known, Left, left_as, count_found, below_found, expiries_on, those_on, all_quiet, quiet_expiries, quiet_left, none_below_first, silent_first, silent_on, expire_frees}
@@ -27,7 +27,7 @@ loop-stream-preserved g c =
     let all = c.args.self.now.state.streams in
     let es = c.loop-stream.self.state.streams in
     let n = c.in-Some.stream in
-    let f = found moment c.loop-stream.from n es i.agrees.numbers.rising i.below (sym c.in-Some.ensures) in
+    let f = found moment c.loop-stream.from n es i.agrees.numbers.rising i.below (ap (λ (h : Seen). first_due moment c.loop-stream.from h.state.streams) (sym c.self.view_is) ∙ sym c.in-Some.ensures) in
     let x = found_known moment n f in
     let state = c.expire.ensures.state x.0 x.1 in
     let o = left_of x.0 in
@@ -51,7 +51,7 @@ loop-stream-smaller g c =
     let i = c.loop-stream.invariant in
     let moment = c.args.moment in
     let n = c.in-Some.stream in
-    let f = found moment c.loop-stream.from n c.loop-stream.self.state.streams i.agrees.numbers.rising i.below (sym c.in-Some.ensures) in
+    let f = found moment c.loop-stream.from n c.loop-stream.self.state.streams i.agrees.numbers.rising i.below (ap (λ (h : Seen). first_due moment c.loop-stream.from h.state.streams) (sym c.self.view_is) ∙ sym c.in-Some.ensures) in
     let x = found_known moment n f in
     let rest = ap (λ (s : State). due_count moment s.streams) (c.expire.ensures.state x.0 x.1) in
     omega (arith, rest, count_found moment n x.0 (left_of x.0) (left_as moment n x.0) f)
@@ -61,17 +61,17 @@ returns-clause-adds g c =
     let i = c.loop-stream.invariant in
     let moment = c.args.moment in
     let es = c.loop-stream.self.state.streams in
-    let quiet = all_quiet moment c.loop-stream.from es i.below (sym c.in_default.ensures) in
+    let quiet = all_quiet moment c.loop-stream.from es i.below (ap (λ (h : Seen). first_due c.args.moment c.loop-stream.from h.state.streams) (sym c.self.view_is) ∙ sym c.in_default.ensures) in
     adds_as _ _ c.args.self.now c.loop-stream.self _ (λ added. added ≡ expiries moment c.args.self.now.state.streams) (λ added e. sym (e ∙ ap (λ l. added ++ l) (quiet_expiries moment es quiet) ∙ append-nil added)) i.adds
 
 pub returns-clause-state : goal.returns-clause-state
 returns-clause-state g c =
     let i = c.loop-stream.invariant in
-    let quiet = all_quiet c.args.moment c.loop-stream.from c.loop-stream.self.state.streams i.below (sym c.in_default.ensures) in
+    let quiet = all_quiet c.args.moment c.loop-stream.from c.loop-stream.self.state.streams i.below (ap (λ (h : Seen). first_due c.args.moment c.loop-stream.from h.state.streams) (sym c.self.view_is) ∙ sym c.in_default.ensures) in
     i.state ∙ ap (λ l. with_streams l c.args.self.now.state) (sym (i.left ∙ quiet_left c.args.moment c.loop-stream.self.state.streams quiet))
 
 pub returns-clause-freed : goal.returns-clause-freed
 returns-clause-freed g c =
     let i = c.loop-stream.invariant in
-    let quiet = all_quiet c.args.moment c.loop-stream.from c.loop-stream.self.state.streams i.below (sym c.in_default.ensures) in
+    let quiet = all_quiet c.args.moment c.loop-stream.from c.loop-stream.self.state.streams i.below (ap (λ (h : Seen). first_due c.args.moment c.loop-stream.from h.state.streams) (sym c.self.view_is) ∙ sym c.in_default.ensures) in
     expire_frees _ _ _ _ c.args.moment c.args.self.now c.loop-stream.self c.requires.numbers.rising i.agrees quiet (sym (i.left ∙ quiet_left c.args.moment c.loop-stream.self.state.streams quiet)) i.silent

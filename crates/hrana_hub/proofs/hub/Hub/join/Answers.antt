@@ -12,6 +12,6 @@ returns-then-is_err-clause-err c =
     let n = h.opened + 1 in
     let conns : c.join.new.self ≡ h.conns = on_err_at c.join.result (sym c.if-is_err.ensures.value) c.join.ensures.err in
     let free = ap (λ (s : Seen). at (s.state.opened + 1) s.state.streams) c.self.view_is ∙ c.requires.fresh in
-    let streams : c.drop_slot.new.slots.entries ≡ h.slots.entries =
-    c.drop_slot.ensures ∙ (ap (λ (es : Numbered Stream). without n es) c.in_ok-add_slot.ensures.ok ∙ without_placed n c.in_ok-slot.slot h.slots.entries free) in
-    only_place c.join.new.self c.drop_slot.new.slots.entries c.reserve_stream.new.self (the_view h) c.args.self.now c.self.view_is refl conns streams c.in_ok-reserve_stream.ensures.ok
+    let streams : c.remove-slot.new.self ≡ h.streams =
+    c.remove-slot.ensures.entries ∙ (ap (λ (es : Numbered Stream). without n es) c.in_ok-add.ensures.ok ∙ without_placed n c.in_ok-slot.slot h.streams free) in
+    only_place c.join.new.self c.remove-slot.new.self c.reserve_stream.new.self (the_view h) c.args.self.now c.self.view_is refl conns streams c.in_ok-reserve_stream.ensures.ok

@@ -32,7 +32,7 @@ pub returns-clause-adds : goal.returns-clause-adds
 returns-clause-adds g c =
     let old = c.args.self.now in
     let k = c.in-Some.known in
-    let mid : Seen = the_view (record { alloc = c.self.inside.alloc; token = c.self.inside.token; conns = c.remove.new.self; slots = c.self.inside.slots; exchanges = c.self.inside.exchanges; issued = c.self.inside.issued; opened = c.self.inside.opened; events = c.self.inside.events; moment = c.self.inside.moment; stopped = c.self.inside.stopped; turns = c.self.inside.turns; store = c.self.inside.store; entries = c.self.inside.entries }) in
+    let mid : Seen = the_view (record { alloc = c.self.inside.alloc; token = c.self.inside.token; conns = c.remove.new.self; streams = c.self.inside.streams; exchanges = c.self.inside.exchanges; issued = c.self.inside.issued; opened = c.self.inside.opened; events = c.self.inside.events; moment = c.self.inside.moment; stopped = c.self.inside.stopped; turns = c.self.inside.turns; store = c.self.inside.store; entries = c.self.inside.entries }) in
     let streams = ap (λ (h : Seen). h.state.streams) c.self.view_is in
     adds_from _ _ old mid c.end_streams.new.self _ _ (ap (λ (h : Seen). h.noted.list) c.self.view_is) (alike old mid streams (ap (λ (h : Seen). h.turns) c.self.view_is) (ap (λ (h : Seen). h.noted.next) c.self.view_is))
     (λ added ends. lost_known old.state c.args.conn k added _ c.end_streams.new.self.state (known g c) (ends ∙ ap (λ ns. ends_of undo.Lost ns mid.state.streams) (c.deref.ensures.value ∙ c.into_streams-streams.ensures) ∙ ap (ends_of undo.Lost k.streams) streams) c.nothing.ensures (leaves g c))

@@ -1,4 +1,4 @@
-use Rattle.std.proofs.Common.{◌≡◌, ◌≤◌, ◌+◌, ◌∙◌, Some, refl, sym, ap, subst, length, rules}
+use Rattle.std.proofs.Common.{◌≡◌, ◌≤◌, ◌+◌, ◌∙◌, Some, refl, sym, ap, subst, length}
 use Rattle.stream_task.specs.declared.task.Poll.TheVariants.{Ready}
 use Rattle.stream_task.specs.declared.task.Stepped.TheVariants.{Idle}
 use Rattle.hrana_hub.specs.Maps.{at, put}
@@ -15,7 +15,7 @@ use Rattle.hrana_hub.proofs.hub.Hub.poll_stream.Given as given
 use Rattle.hrana_hub.proofs.hub.Hub.poll_stream.Goals as goal
 
 abbrev after : (g : given.Over) → goal.After-self-in-Some-1 g → Seen
-after g c = the_view (record { alloc = c.self.inside.alloc; token = c.self.inside.token; conns = c.self.inside.conns; slots = c.get_mut.follows.lender c.poll.new.self; exchanges = c.self.inside.exchanges; issued = c.self.inside.issued; opened = c.self.inside.opened; events = c.self.inside.events; moment = c.self.inside.moment; stopped = c.self.inside.stopped; turns = c.poll.new.turns; store = c.self.inside.store; entries = c.poll.new.entries })
+after g c = the_view (record { alloc = c.self.inside.alloc; token = c.self.inside.token; conns = c.self.inside.conns; streams = put c.args.stream c.poll.new.self c.self.inside.streams; exchanges = c.self.inside.exchanges; issued = c.self.inside.issued; opened = c.self.inside.opened; events = c.self.inside.events; moment = c.self.inside.moment; stopped = c.self.inside.stopped; turns = c.poll.new.turns; store = c.self.inside.store; entries = c.poll.new.entries })
 
 pub poll-requires-clause-may : goal.poll-requires-clause-may
 poll-requires-clause-may g c = may_poll _ _ _ _ (the_view c.self.inside) c.args.stream c.in-Some.slot.now c.streams_agree.ensures.polls
@@ -33,7 +33,7 @@ did g c = record {
   exchanges = refl;
   issued = refl;
   store = refl;
-  streams = (c.get_mut.follows.holds c.poll.new.self).0 ∙ ap (λ x. put c.args.stream x c.self.inside.slots.entries) c.poll.ensures.slot;
+  streams = ap (λ x. put c.args.stream x c.self.inside.streams) c.poll.ensures.slot;
   opened = refl;
   next = refl;
   version = refl;
@@ -54,7 +54,6 @@ returns-in-Some-clause-agrees g c = poll_agrees g.E.Engine.told g.E.Engine.SHARE
 pub returns-in-None-clause-adds : goal.returns-in-None-clause-adds
 returns-in-None-clause-adds g c =
     let old = the_view c.self.inside in
-    let left : Seen = the_view (record { alloc = c.self.inside.alloc; token = c.self.inside.token; conns = c.self.inside.conns; slots = c.get_mut.follows.lender-at-none; exchanges = c.self.inside.exchanges; issued = c.self.inside.issued; opened = c.self.inside.opened; events = c.self.inside.events; moment = c.self.inside.moment; stopped = c.self.inside.stopped; turns = c.self.inside.turns; store = c.self.inside.store; entries = c.self.inside.entries }) in
-    let same : left.state.streams ≡ old.state.streams = search rules in
+    let left : Seen = the_view (record { alloc = c.self.inside.alloc; token = c.self.inside.token; conns = c.self.inside.conns; streams = c.self.inside.streams; exchanges = c.self.inside.exchanges; issued = c.self.inside.issued; opened = c.self.inside.opened; events = c.self.inside.events; moment = c.self.inside.moment; stopped = c.self.inside.stopped; turns = c.self.inside.turns; store = c.self.inside.store; entries = c.self.inside.entries }) in
     subst (λ h. Adds g.E.Engine.told g.E.Engine.SHARED g.E.Engine.meaning g.E.Engine.db g.E.Engine.live g.E.Engine.faults c.args.engine.now c.args.engine.now h left (λ added. (x : Stream) → at c.args.stream h.state.streams ≡ Some x → PollsStream g.E.Engine.SHARED h.state c.args.stream x added (Ready Idle) left.state)) c.self.view_is
-    (adds_none c.args.engine.now old left _ refl (alike old left same refl refl) (λ x e. absurd (none_some (c.in-None.ensures.value ∙ e))))
+    (adds_none c.args.engine.now old left _ refl (alike old left refl refl refl) (λ x e. absurd (none_some (c.in-None.ensures.value ∙ e))))

@@ -8,7 +8,7 @@ use Rattle.hrana_hub.proofs.hub.Hub.stop.Goals as goal
 pub returns-clause-adds : goal.returns-clause-adds
 returns-clause-adds g c =
     let mid = c.end_all.new.self in
-    let left : Seen = the_view (record { alloc = c.self.inside.alloc; token = c.self.inside.token; conns = c.clear.new.self; slots = c.self.inside.slots; exchanges = c.clear-2.new.self; issued = c.self.inside.issued; opened = c.self.inside.opened; events = c.self.inside.events; moment = c.self.inside.moment; stopped = true; turns = c.self.inside.turns; store = c.self.inside.store; entries = c.self.inside.entries }) in
+    let left : Seen = the_view (record { alloc = c.self.inside.alloc; token = c.self.inside.token; conns = c.clear.new.self; streams = c.self.inside.streams; exchanges = c.clear-2.new.self; issued = c.self.inside.issued; opened = c.self.inside.opened; events = c.self.inside.events; moment = c.self.inside.moment; stopped = true; turns = c.self.inside.turns; store = c.self.inside.store; entries = c.self.inside.entries }) in
     let state = ap (λ (h : Seen). h.state) c.self.view_is ∙ c.end_all.ensures.state in
     adds_until _ _ c.args.self.now mid left _ _ (ap (λ (h : Seen). h.noted.list) c.self.view_is)
     (alike mid left (ap (λ (h : Seen). h.state.streams) c.self.view_is) (ap (λ (h : Seen). h.turns) c.self.view_is) (ap (λ (h : Seen). h.noted.next) c.self.view_is))
