@@ -1,3 +1,8 @@
+pub mod Ends
 pub mod Front
 pub mod Items
 pub mod Memory
+pub mod Owed
+pub mod Pace
+pub mod Sockets
+pub mod Unsent
