@@ -1,5 +1,5 @@
 -- When a front over sockets waits.
-use Rattle.std.specs.Prelude.{ℕ, ◌+◌, min, nat_lt, Bool, true, false, not, ◌||◌, if◌then◌else◌}
+use Rattle.std.specs.Prelude.{ℕ, ◌+◌, nat_lt, Bool, true, false, not, ◌||◌, if◌then◌else◌}
 use Rattle.hrana_front.specs.declared.socket_limits.TheConstants.{BUSY_TURNS, WAIT_MICROSECONDS, SHORT_WAIT_MICROSECONDS}
 use Rattle.hrana_front.specs.declared.pace.Pace.{Pace}
 use Rattle.hrana_front.specs.declared.pace.Wait.{Wait}

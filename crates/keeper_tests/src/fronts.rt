@@ -1,14 +1,18 @@
-// A front in memory.
+// The fronts.
 ghost use Rattle.std.specs.Prelude.{IfOk};
 ghost use Rattle.hrana_front.specs.Items.{AreGivable};
 
 use hrana_front::{
-    Accepted, Front, FrontFail, FrontItem, FrontItems, MemoryFront, NoMemory, Put, Took,
+    Accepted, Front, FrontFail, FrontItem, FrontItems, MemoryFront, NoMemory, Put, SocketFront,
+    Took,
 };
 use hrana_value::{Bytes, Txt};
-use http_wire::{HttpAsk, Method, Out, Outs, WireFail};
+use http_wire::{HttpAnswer, HttpAsk, Method, Out, Outs, WireFail};
 use std::alloc::Global;
+use std::io::{Read, Write};
+use std::net::{Net, OpenListener, TcpListener, TcpStream};
 use std::process::Abort;
+use std::rt::Clock;
 use std::test::Fail;
 
 #[derive(Clone, Copy)]
@@ -165,5 +169,91 @@ fn listed_calls_fail_and_lose_their_items(rt: HostRuntime) -> Result<(), Fail> {
         (Call::Take(1), "refused"),
     ];
     are_answered(&rt, rt.alloc(), &[1, 3, 4, 7], &calls, 2);
+    Ok(())
+}
+
+/// A request for no statements.
+const REQUEST: &[u8] =
+    b"POST /v3/pipeline HTTP/1.1\r\nHost: h\r\nContent-Length: 15\r\n\r\n{\"requests\":[]}";
+
+/// The empty answer 200.
+const ANSWER: &[u8] =
+    b"HTTP/1.1 200 OK\r\nContent-Type: application/json\r\nContent-Length: 0\r\n\r\n";
+
+/// Calls `accept` until a connection is there.
+fn accepts_one(front: &mut impl Front) -> bool {
+    for _ in 0..1000 {
+        if let Ok(Accepted::New(conn)) = front.accept() {
+            return conn == 1;
+        }
+    }
+    false
+}
+
+/// Calls `take` on connection 1 until the request is there.
+fn takes_the_request(front: &mut impl Front) -> bool {
+    for _ in 0..1000 {
+        match front.take(1) {
+            Ok(Took::Exchange(ask)) => {
+                return ask.path.as_str() == "/v3/pipeline"
+                    && ask.body.as_slice() == b"{\"requests\":[]}".as_slice();
+            }
+            Ok(Took::NotYet) => {}
+            _ => return false,
+        }
+    }
+    false
+}
+
+/// The outs with the empty answer 200.
+fn empty_answer(alloc: Global) -> Outs {
+    Outs {
+        conn: 1,
+        out: Some(Out::Answer(HttpAnswer {
+            status: 200,
+            allow: None,
+            body: Bytes::from_vec(Vec::new(alloc)),
+            close: false,
+        })),
+        close: None,
+    }
+}
+
+/// An address of this machine that nobody listens at.
+fn free_address<R: Net>(rt: &R, alloc: Global) -> Option<String> {
+    let listener = TcpListener::bind(rt, "127.0.0.1:0").ok()?;
+    let addr = listener.local_addr().ok()?;
+    format!(in alloc; "{addr}").ok()
+}
+
+/// Whether a client of a front over sockets sends the request and reads the answer.
+fn is_served<R: Net + Clock>(rt: &R, alloc: Global) -> bool {
+    let Some(addr) = free_address(rt, alloc) else {
+        return false;
+    };
+    let addr = addr.as_str();
+    let mut front = SocketFront::new(rt, alloc);
+    let Ok(()) = front.listen(addr) else {
+        return false;
+    };
+    let Ok(mut client) = TcpStream::connect(rt, addr) else {
+        return false;
+    };
+    if client.write_all(REQUEST).is_err() {
+        return false;
+    }
+    if !accepts_one(&mut front) || !takes_the_request(&mut front) {
+        return false;
+    }
+    let Ok(Put::Sent) = front.put(empty_answer(alloc)) else {
+        return false;
+    };
+    let mut answer = [0u8; ANSWER.len()];
+    client.read_exact(&mut answer).is_ok() && answer.as_slice() == ANSWER
+}
+
+#[test]
+fn sockets_serve_a_request(rt: HostRuntime) -> Result<(), Fail> {
+    assert!(rt; is_served(&rt, rt.alloc()));
     Ok(())
 }
