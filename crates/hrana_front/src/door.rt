@@ -1,5 +1,5 @@
 // Whether a connection waits to be accepted.
-ghost use Rattle.std.specs.Prelude.{◌≡◌, ◌≢◌, ◌↔◌};
+ghost use Rattle.std.specs.Prelude.{◌≡◌, ◌≢◌, ◌↔◌, None};
 
 use std::io::ErrorKind;
 
@@ -21,7 +21,11 @@ const NO_LISTENER: [i32; 4] = [9, 22, 88, 95];
 
 /// What an `accept` of the system that failed leaves, by the kind of its error and its number. A connection that was reset
 /// before it was accepted leaves the others waiting.
-pub fn door_after(kind: ErrorKind, number: Option<i32>) -> Door {
+pub fn door_after(kind: ErrorKind, number: Option<i32>) -> Door
+    ensures quiet { (result ≡ Door.Quiet) ↔ (kind ≡ ErrorKind.WouldBlock) }
+    ensures reset { kind ≡ ErrorKind.ConnectionAborted → result ≡ Door.Open }
+    ensures stuck { number ≡ None → result ≢ Door.Broken }
+{
     match (kind, number) {
         (ErrorKind::WouldBlock, _) => Door::Quiet,
         (ErrorKind::ConnectionAborted | ErrorKind::Interrupted, _) => Door::Open,

@@ -22,6 +22,12 @@ impl Peers {
         }
     }
 
+    /// Makes room for one more.
+    pub fn reserve(&mut self) -> Result<(), NoMemory> {
+        self.list.reserve(1)?;
+        Ok(())
+    }
+
     pub fn push(&mut self, peer: Peer) -> Result<(), NoMemory> {
         self.list.push(peer)?;
         Ok(())

@@ -8,10 +8,21 @@ use std::net::Net;
 use std::rt;
 
 /// A front over one TCP port, whose sockets don't block. It speaks HTTP, and WebSocket after an upgrade. It never answers
-/// `Stop`, and tells no calls. It waits inside its own calls, once a turn at most: a turn begins with a call of `accept`, or
-/// with a `take` on a number not above that of the turn's last `take`.
+/// `Stop`, and tells no calls.
 ///
-/// A connection that is gone, that an out closed or on which a `put` answered `Gone` isn't known any more.
+/// It waits for its sockets inside its own calls, once a turn at most. A turn begins with a call of `accept`, or with a
+/// `take` on a number not above that of the turn's last `take`. It waits `WAIT_MICROSECONDS` at most while each message and
+/// request that it handed over was answered by a `put` or its connection is gone, and nothing that came is left to be taken.
+/// Else it only looks; after `BUSY_TURNS` turns in a row that brought nothing it waits `SHORT_WAIT_MICROSECONDS` a turn.
+///
+/// What a socket doesn't take at once waits for its peer, and is sent by later calls. A peer for which more than
+/// `MAX_UNSENT_BYTES` wait is given up by the next `put`, which answers `Gone`. A connection that is gone or that an out
+/// closed isn't known any more. Its last bytes are still sent, and it is read until its end, in `LEAVING_MS` milliseconds at
+/// most; of more than `MAX_LEAVING` such connections the oldest is cut off.
+///
+/// A request is answered before the next on its connection is read. A message above `MAX_MESSAGE_BYTES`, a text that isn't
+/// UTF-8 and what breaks the protocol are answered by a close frame with 1009, 1007 and 1002 (RFC 6455, section 7.4.1), and
+/// the connection is gone.
 #[derive(Drop)]
 pub struct SocketFront<'a, R: rt::Clock> {
     rt: &'a R,

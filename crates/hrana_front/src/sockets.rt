@@ -185,6 +185,7 @@ impl<R: rt::Clock> Sockets<'_, R> {
             Door::Quiet => return Ok(Arrival::Nobody),
             Door::Open | Door::Stuck => {}
         }
+        self.peers.reserve()?;
         let wire = Wire::new(self.alloc)?;
         match (self.listener.accept(), next) {
             (Ok((stream, _)), Some(conn)) => self.admit(stream, conn, wire),
