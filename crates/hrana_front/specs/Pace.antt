@@ -1,5 +1,5 @@
 -- When a front over sockets waits.
-use Rattle.std.specs.Prelude.{ℕ, ◌+◌, nat_lt, Bool, true, false, not, ◌||◌, if◌then◌else◌}
+use Rattle.std.specs.Prelude.{◌≡◌, ℕ, ◌+◌, min, nat_lt, List, [], ◌∷◌, Bool, true, false, not, ◌||◌, if◌then◌else◌}
 use Rattle.hrana_front.specs.declared.socket_limits.TheConstants.{BUSY_TURNS, WAIT_MICROSECONDS, SHORT_WAIT_MICROSECONDS}
 use Rattle.hrana_front.specs.declared.pace.Pace.{Pace}
 use Rattle.hrana_front.specs.declared.pace.Wait.{Wait}
@@ -23,3 +23,14 @@ abbrev pub wait_of : Pace → Bool → Bool → Wait
 wait_of p unanswered ready =
     if not (unanswered || ready) then wait.Long
     else (if nat_lt p.idle BUSY_TURNS then wait.AtOnce else wait.Short)
+
+-- how many of the last turns, in a row, brought nothing, where the list says of each turn whether it brought something, the
+-- last one first
+unfoldable pub quiet_turns : List Bool → ℕ
+quiet_turns [] = 0
+quiet_turns (true ∷ turns) = 0
+quiet_turns (false ∷ turns) = quiet_turns turns + 1
+
+-- the count is that of the turns so far
+abbrev pub Counts : Pace → List Bool → Type 0
+Counts p turns = p.idle ≡ min (quiet_turns turns) BUSY_TURNS

@@ -38,11 +38,13 @@ pub struct Pace {
 }
 
 impl Pace {
-    ghost use Rattle.std.specs.Prelude.{◌≡◌, nat_le, true};
-    ghost use Rattle.hrana_front.specs.Pace.{pace_at_first, turn_begun, wait_of};
+    ghost use Rattle.std.specs.Prelude.{◌≡◌, ◌≤◌, ◌∷◌, [], List, Bool, nat_le, true};
+    ghost use Rattle.hrana_front.specs.Pace.{Counts, quiet_turns, pace_at_first, turn_begun, wait_of};
 
+    #[tactic(auto, unfolding(crate::specs::Pace::quiet_turns))]
     pub fn new() -> Pace
-        ensures { result ≡ pace_at_first }
+        ensures at_first { result ≡ pace_at_first }
+        ensures counts { Counts result [] }
     {
         Pace {
             last: 0,
@@ -59,8 +61,10 @@ impl Pace {
     }
 
     /// Begins a turn.
+    #[tactic(auto, unfolding(crate::specs::Pace::quiet_turns))]
     pub fn begin(&mut self)
-        ensures { self.new ≡ turn_begun self.old }
+        ensures begun { self.new ≡ turn_begun self.old }
+        ensures counts { (turns : List Bool) → Counts self.old turns → Counts self.new (self.old.brought ∷ turns) }
     {
         self.idle = if self.brought {
             0
@@ -89,7 +93,8 @@ impl Pace {
 
     /// How long the turn that began waits, where something is unanswered or where something has come that wasn't taken yet.
     pub fn wait(&self, unanswered: bool, ready: bool) -> Wait
-        ensures { result ≡ wait_of self.now unanswered ready }
+        ensures wait { result ≡ wait_of self.now unanswered ready }
+        ensures short { (turns : List Bool) → Counts self.now turns → result ≡ Wait.Short → BUSY_TURNS ≤ quiet_turns turns }
     {
         if !unanswered && !ready {
             Wait::Long

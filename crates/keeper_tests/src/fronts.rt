@@ -4,7 +4,7 @@ ghost use Rattle.hrana_front.specs.Items.{AreGivable};
 
 use hrana_front::{
     Accepted, Front, FrontFail, FrontItem, FrontItems, MemoryFront, NoMemory, Put, SocketFront,
-    Took,
+    Took, socket_limits_are,
 };
 use hrana_value::{Bytes, Txt};
 use http_wire::{HttpAnswer, HttpAsk, Method, Out, Outs, WireFail};
@@ -254,6 +254,7 @@ fn is_served<R: Net + Clock>(rt: &R, alloc: Global) -> bool {
 
 #[test]
 fn sockets_serve_a_request(rt: HostRuntime) -> Result<(), Fail> {
+    socket_limits_are();
     assert!(rt; is_served(&rt, rt.alloc()));
     Ok(())
 }
